@@ -16,9 +16,9 @@ use reference_machine::{QUADWORDS, fill};
 use std::alloc::{AllocError, Global};
 use std::marker::Model;
 
-/// Accepted code, its operations, registers, and its part of the arena, which begins at `base`. It
-/// keeps no rights: while it is `Ready`, some rights fit it, under which the code accesses nothing
-/// that isn't allowed.
+/// Accepted code with its predecoded operations, its registers, and its part of the arena, which
+/// begins at address `base`. An agent holds no rights: while it is `Ready`, some rights fit it,
+/// under which the code accesses nothing that isn't allowed.
 #[derive(Drop)]
 pub struct Hosted {
     pub(crate) accepted: Accepted,
@@ -50,8 +50,10 @@ impl Model for Hosted {
 }
 
 impl Hosted {
-    /// The agent of the accepted code, whose part begins at `base`, with its operations made and
-    /// its part reserved. Nothing is loaded. Fails only for want of memory.
+    /// Creates an agent of the accepted code, whose part begins at address `base`: predecodes the
+    /// code and reserves the part. No packet is loaded.
+    ///
+    /// Errors: out of memory.
     pub fn new(alloc: Global, accepted: Accepted, base: u64) -> Result<Hosted, AllocError>
         requires aligned { base % 8 ≡ 0 }
         requires low { base < 2 ^ 32 }
@@ -73,12 +75,13 @@ impl Hosted {
         })
     }
 
-    /// Begins anew at the start of the policy on `packet`, which has at most `MAX_PACKET` bytes:
-    /// its bytes stand in the part, every other quadword of it is 0, and nothing of an earlier run
-    /// is left. The rights of the start then fit, with all steps of the bound left. Takes no
-    /// memory.
+    /// Loads `packet`, of at most `MAX_PACKET` bytes, at the policy's start state, and returns
+    /// true. The part then holds the packet's bytes, every other quadword of it is 0, and nothing
+    /// of an earlier run is left. The rights of the start then fit, with all steps of the bound
+    /// left. Takes no memory.
     ///
-    /// Answers false exactly where the packet is short; the agent is then unchanged.
+    /// Returns false exactly if the packet is too short for the policy; the agent is then
+    /// unchanged.
     pub fn load(&mut self, packet: &[u8]) -> bool
         requires { length packet.now ≤ MAX_PACKET }
         ensures { LoadsPacket packet.now result self.old self.new }
@@ -96,8 +99,8 @@ impl Hosted {
         true
     }
 
-    /// Makes at most `budget` steps, a return among them, and answers how the run ended. No access
-    /// is tested. Where steps are bounded, a budget of at least the bound ends by a return.
+    /// Runs at most `budget` steps (a return counts), and returns how the run ended. Tests no
+    /// access. If steps are bounded, a budget of at least the bound ends with a return.
     fn run(&mut self, budget: u64) -> Ended
         requires { self.old.phase ≡ Phase.Ready }
         ensures { RunsTo budget result self.old self.new }
@@ -117,7 +120,8 @@ impl Hosted {
         ended
     }
 
-    /// Runs where it hasn't returned since its last load.
+    /// Runs at most `budget` steps (a return counts), unless the agent has returned since its last
+    /// load, and returns how the turn ended.
     pub fn turn(&mut self, budget: u64) -> Turned
         requires { self.old.phase ≢ Phase.Unloaded }
         ensures { TurnsTo budget result self.old self.new }
@@ -131,8 +135,8 @@ impl Hosted {
         }
     }
 
-    /// The sum of the region's quadwords, modulo 2^64; the region is at the part's front. Takes no
-    /// memory.
+    /// Returns the sum of the region's quadwords, modulo 2^64; the region is at the start of the
+    /// part. Takes no memory.
     pub fn sum(&self) -> u64
         ensures { result
             ≡ sum_of (map_of self.now.base self.now.words) self.now.base self.now.region % 2 ^ 64 }
@@ -144,14 +148,15 @@ impl Hosted {
         total
     }
 
-    /// What was accepted.
+    /// Returns the accepted code with its policy.
     pub fn accepted(&self) -> &Accepted
         ensures { result.now ≡ self.now.accepted }
     {
         &self.accepted
     }
 
-    /// What holds of every agent, with nothing to run: while it may run, some rights fit it.
+    /// States the theorem about every agent; nothing is run. While an agent may run, some rights
+    /// fit it.
     pub fn laws(&self)
         ensures { self.now.phase ≡ Phase.Ready → SomeRightsFit self.now }
     {

@@ -1,4 +1,4 @@
-//! A host of many agents.
+//! A host of several agents in one arena.
 
 ghost use Rattle.std.specs.Prelude.{◌≡◌, ◌≢◌, ◌≤◌, ◌<◌, ◌%◌, ◌^◌, IfOk, Some, length, map};
 ghost use Rattle.std.specs.Prelude.{slice_get, All};
@@ -16,13 +16,13 @@ use reference_machine::{ARENA, QUADWORDS};
 use std::alloc::{AllocError, Global};
 use std::marker::Model;
 
-/// The most agents of a host.
+/// The maximal number of agents of a host.
 pub const MAX_AGENTS: usize = 16;
 
 /// The bytes of an agent's part of the arena.
 const PART: u64 = 65_552;
 
-/// The address at which the part of agent `a` begins.
+/// Returns the address at which the part of agent `a` begins.
 pub fn part_base(a: u32) -> u64
     requires { a < MAX_AGENTS }
     ensures exact { result ≡ base_of a }
@@ -32,8 +32,8 @@ pub fn part_base(a: u32) -> u64
     ARENA + PART * u64::from(a)
 }
 
-/// Agents that are numbered from 0 and share one arena, each with a part of its own. Contracts see
-/// the list of them.
+/// Agents, numbered from 0, that share one arena, each with a part of its own. Contracts see the
+/// list of agents.
 #[derive(Drop)]
 pub struct AgentHost {
     pub(crate) agents: Vec<Hosted>,
@@ -59,8 +59,10 @@ impl Model for AgentHost {
 }
 
 impl AgentHost {
-    /// The host of 1 to `MAX_AGENTS` accepted codes in this order, with their operations made and
-    /// all parts reserved. None is loaded. Fails only for want of memory.
+    /// Creates a host of 1 to `MAX_AGENTS` accepted codes, in this order: predecodes their code and
+    /// reserves all parts. No packet is loaded.
+    ///
+    /// Errors: out of memory.
     pub fn new(alloc: Global, agents: Vec<Accepted>) -> Result<AgentHost, AllocError>
         requires some { 0 < length agents.items }
         requires few { length agents.items ≤ MAX_AGENTS }
@@ -76,11 +78,11 @@ impl AgentHost {
         Ok(AgentHost { agents: hosted })
     }
 
-    /// Brings agent `a` to the start of its policy on `packet`, of at most `MAX_PACKET` bytes, in
-    /// its part of the arena; nothing of its earlier runs is left. Every other agent stays as it
-    /// was. Takes no memory.
+    /// Loads `packet`, of at most `MAX_PACKET` bytes, for agent `a`, in its part of the arena, at
+    /// the start state of its policy, and returns true. Nothing of the agent's earlier runs is
+    /// left. Every other agent is unchanged. Takes no memory.
     ///
-    /// Answers false exactly where the packet is short; nothing then changes.
+    /// Returns false exactly if the packet is too short for the policy; nothing then changes.
     pub fn load(&mut self, a: u32, packet: &[u8]) -> bool
         requires agent { a < length self.old }
         requires packet { length packet.now ≤ MAX_PACKET }
@@ -89,10 +91,10 @@ impl AgentHost {
         self.agents[a as usize].load(packet)
     }
 
-    /// Gives agent `a`, which is loaded, at most `budget` steps, a return among them; none where it
-    /// has returned since its last load. No access is tested. Where the agent's steps are bounded,
-    /// a budget of at least the bound ends by a return. Every other agent stays as it was. Takes no
-    /// memory.
+    /// Runs agent `a`, which is loaded, for at most `budget` steps (a return counts), and returns
+    /// how its turn ended. Runs nothing if the agent has returned since its last load. Tests no
+    /// access. If the agent's steps are bounded, a budget of at least the bound ends with a return.
+    /// Every other agent is unchanged. Takes no memory.
     pub fn turn(&mut self, a: u32, budget: u64) -> Turned
         requires agent { a < length self.old }
         requires loaded { IsLoadedAt self.old a }
@@ -101,8 +103,8 @@ impl AgentHost {
         self.agents[a as usize].turn(budget)
     }
 
-    /// The sum of the quadwords of the region of agent `a`, which is loaded, modulo 2^64. Takes no
-    /// memory.
+    /// Returns the sum of the quadwords of the region of agent `a`, which is loaded, modulo 2^64.
+    /// Takes no memory.
     pub fn sum(&self, a: u32) -> u64
         requires agent { a < length self.now }
         requires loaded { IsLoadedAt self.now a }
@@ -111,7 +113,7 @@ impl AgentHost {
         self.agents[a as usize].sum()
     }
 
-    /// What was accepted of agent `a`.
+    /// Returns the accepted code of agent `a`, with its policy.
     pub fn accepted(&self, a: u32) -> &Accepted
         requires { a < length self.now }
         ensures { (m : HostedView) → slice_get self.now a ≡ Some m → result.now ≡ m.accepted }
@@ -119,8 +121,8 @@ impl AgentHost {
         self.agents[a as usize].accepted()
     }
 
-    /// What holds of agent `a`, with nothing to run: where its part begins, and that some rights
-    /// fit it while it may run.
+    /// States the theorems about agent `a`; nothing is run. They say where its part begins, and
+    /// that some rights fit the agent while it may run.
     pub fn laws(&self, a: u32)
         requires { a < length self.now }
         ensures { (m : HostedView) → slice_get self.now a ≡ Some m → IsHostedAt a m }

@@ -5,19 +5,19 @@ ghost use Rattle.agent_host.specs.Turns.{phase_after};
 
 use host_steps::Ended;
 
-/// Whether an agent may run.
+/// Whether an agent may run, and if not, why.
 #[derive(Clone, Copy, Debug, PartialEq, Eq)]
 pub enum Phase {
     /// No packet is loaded.
     Unloaded,
-    /// It hasn't returned since its last load.
+    /// A packet is loaded, and the agent hasn't returned since; it may run.
     Ready,
-    /// It has returned since its last load.
+    /// The agent has returned since its last load.
     Returned,
 }
 
 impl Phase {
-    /// The phase behind a run that ended so.
+    /// Returns the phase of an agent after a run that ended so.
     pub fn after(ended: Ended) -> Phase
         ensures { result ≡ phase_after ended }
     {

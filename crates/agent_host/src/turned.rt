@@ -1,24 +1,23 @@
-//! What a turn answers.
+//! How a turn ended.
 
 ghost use Rattle.std.specs.Prelude.{◌≡◌};
 ghost use Rattle.agent_host.specs.Turns.{outcome_shown};
 
 use alpha_cfg::Outcome;
 
-/// What a turn answers. No access is tested, so none is blocked.
+/// How a turn ended. No end is `blocked`, since no access is tested.
 #[derive(Clone, Copy, Debug, PartialEq, Eq)]
 pub enum Turned {
-    /// A return, with the word of register 0.
+    /// The code returned, with this word in register 0.
     Returned(u64),
-    /// The whole budget of steps was made, and none returned.
+    /// The run made all steps of its budget, and none of them was a return.
     OutOfSteps,
-    /// The agent had returned since its last load: nothing was run.
+    /// The agent had already returned since its last load: nothing was run.
     Done,
 }
 
 impl Turned {
-    /// The outcome of the run as the machine that tests each access has it; none where nothing was
-    /// run.
+    /// Returns the outcome that the machine that tests each access has, or None if nothing was run.
     pub fn outcome(self) -> Option<Outcome>
         ensures { result ≡ outcome_shown self }
     {

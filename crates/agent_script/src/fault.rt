@@ -1,4 +1,4 @@
-//! Why a text is no script.
+//! Why a text isn't a script.
 
 ghost use Rattle.std.specs.Prelude.{◌≡◌, ◌≤◌, length};
 ghost use Rattle.agent_script.specs.Names.{script_flaw_name};
@@ -6,34 +6,35 @@ ghost use Rattle.agent_script.specs.Names.{script_flaw_name};
 use std::alloc::{AllocError, AllocFailed};
 use thiserror::Error;
 
-/// The most bytes that the name of a kind has.
+/// The maximal length in bytes of a kind's name.
 pub const MAX_KIND: usize = 5;
 
-/// What is wrong with a line, the tests in their order, and last what is wrong with them all.
+/// What is wrong with a line, in the order of the tests; last, what is wrong with all lines.
 #[derive(Clone, Copy, Debug, PartialEq, Eq, Error)]
 pub enum ScriptFlaw {
     /// The first word is neither `load` nor `turn`.
-    #[error("the first word is neither load nor turn")]
+    #[error("the line must begin with the word load or turn")]
     Word,
-    /// There are more or fewer words, a number is none, or a word isn't UTF-8.
-    #[error("the words don't have the form")]
+    /// The line has too many or too few words, a number isn't one, or a word isn't UTF-8.
+    #[error("the line must read load POLICY FILE PACKETS or turn A N")]
     Form,
-    /// A load behind a turn.
+    /// A `load` line comes after a `turn` line.
     #[error("a load behind a turn")]
     Late,
-    /// A load behind `MAX_LOADS` others.
-    #[error("more than 16 loads")]
+    /// A `load` line comes after `MAX_LOADS` others.
+    #[error("the script loads more than 16 agents")]
     Many,
-    /// A turn of an agent that isn't loaded.
-    #[error("no such agent")]
+    /// A turn names an agent that isn't loaded.
+    #[error("the turn names an agent that no line loads")]
     Agent,
     /// No line loads an agent.
-    #[error("no agent is loaded")]
+    #[error("the script has no load line")]
     Empty,
 }
 
 impl ScriptFlaw {
-    /// The kind's name, of at most `MAX_KIND` bytes, as the line of the fault shows it.
+    /// Returns the kind's name, of at most `MAX_KIND` bytes, as the line that reports the fault
+    /// shows it.
     pub fn name(self) -> &'static str
         ensures exact { result.now ≡ script_flaw_name self }
         ensures short { length result.now ≤ MAX_KIND }
@@ -49,13 +50,14 @@ impl ScriptFlaw {
     }
 }
 
-/// Why a text gives no script.
+/// Why reading a text gave no script.
 #[derive(Clone, Copy, Debug, PartialEq, Eq, Error)]
 pub enum ScriptFault {
-    /// The line of this number, from 1, is the first that is wrong; 0 where none loads an agent.
+    /// The first wrong line, numbered from 1, and what is wrong with it; line 0 if no line loads an
+    /// agent.
     #[error("line {0}: {1}")]
     At(u32, ScriptFlaw),
-    /// There was no memory for the script; that says nothing of the text.
+    /// There was no memory for the script; this says nothing about the text.
     #[error("out of memory")]
     Memory,
 }

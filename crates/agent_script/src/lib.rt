@@ -1,12 +1,12 @@
-//! Scripts of a host of many agents: which are loaded, and then who may run, and how long.
+//! Parser for scripts that load agents and then give them time slices (turns).
 //!
 //! A script has lines `load POLICY FILE PACKETS`, which number the agents from 0, and then lines
-//! `turn A N`. The layer above uses that `read_script` gives what a text says, or its first fault:
-//! the first line that is wrong, and the first test that it fails. Lines and words stand in
-//! `specs/Lines`, what a line says in `specs/Statements`, what a script says in `specs/Scripts`,
-//! the names of the kinds of faults in `specs/Names`; a turn is turn_laws'. Which text is a script, and
-//! which line of one is the first that is wrong, stands in `specs/Texts`, with no order in which it is
-//! read, and `laws` says that what is read is that. The format is this project's own.
+//! `turn A N`. `read_script` returns the script that a text holds, or its first fault: the first
+//! line that is wrong, and the first test that it fails. `specs/Lines` defines lines and words,
+//! `specs/Statements` what a line says, `specs/Scripts` what a script says, `specs/Names` the names
+//! of the kinds of faults; a turn is turn_laws'. `specs/Texts` says, without an order of reading,
+//! which text is a script, and which of its lines is the first that is wrong; `laws` says that
+//! `read_script` agrees with it. The format is this project's own.
 #![tactic(auto)]
 
 mod fault;

@@ -1,4 +1,4 @@
-//! The lines of a script, and their words.
+//! Lines of a script and their words.
 
 ghost use Rattle.std.specs.Prelude.{◌≡◌, ◌<◌, ◌≤◌, ◌∷◌, [], true, false, length, take, slice_index};
 ghost use Rattle.std.specs.Prelude.{IfSome, IfNone, option_map, unwrap_or};
@@ -7,7 +7,7 @@ ghost use Rattle.agent_script.specs.Inside.Words.{HasNoEnd, HasNoBlank, IsBlank}
 
 use std::marker::Model;
 
-/// How many bytes stand before the first LF, or before the end.
+/// Returns the number of bytes before the first LF, or before the end.
 fn line_length(text: &[u8]) -> usize
     ensures within { result ≤ length text.now }
     ensures line { HasNoEnd (take result text.now) }
@@ -21,7 +21,7 @@ fn line_length(text: &[u8]) -> usize
     text.len()
 }
 
-/// The first line, and the text behind it.
+/// Returns the first line, and the text after it. The text isn't empty.
 pub fn split_line(text: &[u8]) -> (&[u8], &[u8])
     requires { 0 < length text.now }
     ensures line { script_lines text.now ≡ result.0.now ∷ script_lines result.1.now }
@@ -41,7 +41,7 @@ fn parts_words(byte: u8) -> bool
     byte == b' ' || byte == b'\t'
 }
 
-/// How many bytes stand before the first blank, or before the end.
+/// Returns the number of bytes before the first blank, or before the end.
 fn word_length(line: &[u8]) -> usize
     ensures within { result ≤ length line.now }
     ensures word { HasNoBlank (take result line.now) }
@@ -55,7 +55,7 @@ fn word_length(line: &[u8]) -> usize
     line.len()
 }
 
-/// How many blanks stand in front.
+/// Returns the number of blanks at the start.
 fn blank_count(line: &[u8]) -> usize
     ensures within { result ≤ length line.now }
     ensures blank { IsBlank (take result line.now) }
@@ -69,7 +69,7 @@ fn blank_count(line: &[u8]) -> usize
     line.len()
 }
 
-/// The first word, and the text behind the blanks that end it; none behind the last word.
+/// Returns the first word, and the text after the blanks that end it; None after the last word.
 fn split_word(line: &[u8]) -> (&[u8], Option<&[u8]>)
     ensures { line_words line.now ≡ result.0.now
         ∷ unwrap_or (option_map (λ rest. line_words rest.now) result.1) [] }
@@ -82,7 +82,7 @@ fn split_word(line: &[u8]) -> (&[u8], Option<&[u8]>)
     (word, Some(&behind[blank_count(behind)..]))
 }
 
-/// The words of a line, as far as they aren't read. Contracts see their list.
+/// The words of a line that aren't read yet. Contracts see their list.
 #[derive(Drop)]
 pub struct Words<'b> {
     rest: Option<&'b [u8]>,
@@ -98,14 +98,14 @@ impl<'b> Model for Words<'b> {
 }
 
 impl<'b> Words<'b> {
-    /// All words of the line.
+    /// Returns all words of the line.
     pub fn of(line: &'b [u8]) -> Words<'b>
         ensures { result ≡ line_words line.now }
     {
         Words { rest: Some(line) }
     }
 
-    /// The first word that isn't read; none behind the last.
+    /// Reads and returns the next word, or None after the last.
     pub fn next(&mut self) -> Option<&'b [u8]>
         ensures some { IfSome result (λ word. self.old ≡ word.now ∷ self.new) }
         ensures none { IfNone result (self.old ≡ []) }

@@ -1,4 +1,4 @@
-//! How a text is read as a script.
+//! Reading a text as a script.
 
 ghost use Rattle.std.specs.Prelude.{◌≡◌, ◌≤◌, length, IfOk, Ok};
 ghost use Rattle.agent_script.specs.Lines.{line_words};
@@ -24,7 +24,7 @@ fn no_lines(alloc: Global) -> Script
     }
 }
 
-/// Puts the load of the line of the number behind the script.
+/// Appends the load of line `number` to the script.
 fn add_load(
     alloc: Global,
     script: &mut Script,
@@ -54,7 +54,7 @@ fn add_load(
     Ok(())
 }
 
-/// Puts the turn of the line of the number behind the script.
+/// Appends the turn of line `number` to the script.
 fn add_turn(script: &mut Script, number: u32, agent: u64, budget: u64) -> Result<(), ScriptFault>
     requires { length script.old.loads.items ≤ MAX_LOADS }
     ensures { IsTaken number (with_turn (script_view script.old) agent budget)
@@ -68,7 +68,7 @@ fn add_turn(script: &mut Script, number: u32, agent: u64, budget: u64) -> Result
     Ok(())
 }
 
-/// Puts what the line of the number says behind the script.
+/// Appends the statement of line `number` to the script.
 fn add(
     alloc: Global,
     script: &mut Script,
@@ -90,7 +90,7 @@ fn add(
     }
 }
 
-/// Puts the line of the number behind the script.
+/// Appends line `number` to the script.
 fn add_line(alloc: Global, script: &mut Script, number: u32, line: &[u8]) -> Result<(), ScriptFault>
     requires { length script.old.loads.items ≤ MAX_LOADS }
     ensures { IsTaken number
@@ -103,11 +103,11 @@ fn add_line(alloc: Global, script: &mut Script, number: u32, line: &[u8]) -> Res
     }
 }
 
-/// What the text, of at most `MAX_SCRIPT` bytes, says as a script: 1 to `MAX_LOADS` agents, and
-/// turns of these alone.
+/// Parses the text, of at most `MAX_SCRIPT` bytes, as a script: 1 to `MAX_LOADS` agents, and turns
+/// of these agents only.
 ///
 /// Errors: the first line that is wrong, numbered from 1, and the first test that it fails; line 0
-/// where no agent is loaded; or want of memory.
+/// if no line loads an agent; or out of memory.
 pub fn read_script(alloc: Global, text: &[u8]) -> Result<Script, ScriptFault>
     requires { length text.now ≤ MAX_SCRIPT }
     ensures exact { IsScriptRead text.now result }

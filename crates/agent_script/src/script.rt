@@ -1,32 +1,32 @@
-//! What a script says.
+//! What a script holds: agents to load and their turns.
 
 use turn_laws::Turn;
 
-/// The most bytes of a script.
+/// The maximal length of a script in bytes.
 pub const MAX_SCRIPT: usize = 65_536;
 
-/// The most agents that a script loads.
+/// The maximal number of agents that a script loads.
 pub const MAX_LOADS: usize = 16;
 
-/// The most steps of a turn.
+/// The maximal number of steps of a turn.
 pub const MAX_TURN: u64 = 1_000_000_000;
 
-/// An agent that is to be loaded.
+/// An agent to be loaded.
 #[derive(Drop)]
 pub struct Load {
     /// The policy's name.
     pub policy: String,
     /// The name of the container's file.
     pub file: String,
-    /// The name of the packet file, of which the first packet is taken.
+    /// The name of the packet file, whose first packet the agent gets.
     pub packets: String,
 }
 
-/// The agents that a script loads, and then their turns. An agent's number is its place.
+/// The agents that a script loads, and then their turns. An agent's number is its index in `loads`.
 #[derive(Drop)]
 pub struct Script {
-    /// The agents.
+    /// The agents, in order.
     pub loads: Vec<Load>,
-    /// The turns in order.
+    /// The turns, in order.
     pub turns: Vec<Turn>,
 }

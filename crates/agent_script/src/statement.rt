@@ -1,4 +1,4 @@
-//! What a line of a script says.
+//! What one line of a script says.
 
 ghost use Rattle.std.specs.Prelude.{◌≡◌, ◌∷◌, [], true, false, IfSome, IfNone};
 ghost use Rattle.agent_script.specs.Statements.{is_name, load_operands, turn_operands};
@@ -12,10 +12,10 @@ use crate::script::MAX_TURN;
 use std::str;
 use text_tokens::{Number, read_decimal};
 
-/// The most digits of a number.
+/// The maximal number of digits in a number.
 pub const MAX_DIGITS: usize = 10;
 
-/// A line that is right by itself.
+/// A line that is valid by itself, whatever the other lines say.
 #[derive(Clone, Copy)]
 pub enum Statement<'b> {
     /// Loads an agent.
@@ -86,7 +86,7 @@ fn load_of<'b>(policy: &'b [u8], file: &'b [u8], packets: &'b [u8]) -> Option<St
     })
 }
 
-/// The load that the words behind `load` say.
+/// Reads the load from the words after `load`.
 fn read_load<'b>(words: &mut Words<'b>) -> Option<Statement<'b>>
     ensures { IsStatement (load_operands words.old) result }
 {
@@ -108,7 +108,7 @@ fn turn_of<'b>(agent: &'b [u8], budget: &'b [u8]) -> Option<Statement<'b>>
     Some(Statement::Turn { agent, budget })
 }
 
-/// The turn that the words behind `turn` say.
+/// Reads the turn from the words after `turn`.
 fn read_turn<'b>(words: &mut Words<'b>) -> Option<Statement<'b>>
     ensures { IsStatement (turn_operands words.old) result }
 {
@@ -120,7 +120,9 @@ fn read_turn<'b>(words: &mut Words<'b>) -> Option<Statement<'b>>
     }
 }
 
-/// What the line says, or the first test that it fails.
+/// Parses a line, without its line end, as a statement.
+///
+/// Errors: the first test that the line fails.
 pub fn read_statement(line: &[u8]) -> Result<Statement<'_>, ScriptFlaw>
     ensures { IsStatementRead (statement_of (line_words line.now)) result }
 {

@@ -1,4 +1,4 @@
-//! The code of a program, block by block.
+//! Generating the code of a program, block by block.
 
 ghost use Rattle.std.specs.Prelude.{◌≡◌, ◌+◌, ◌-◌, ◌*◌, ◌<◌, ◌≤◌, ◌++◌, ◌∷◌, [], length, replicate, slice_get, Some, IfOk, OnOk};
 ghost use Rattle.alpha_words.specs.declared.insn.Insn.TheVariants as words;
@@ -17,7 +17,7 @@ use bpf_words::{Bpf, BpfOp, bpf_op};
 use std::alloc::{AllocError, Global};
 use word_ops::Op;
 
-/// How many words a block has.
+/// The number of words in a block.
 pub const BLOCK: usize = 20;
 
 /// Adds a word.
@@ -93,7 +93,7 @@ fn push_straight(code: &mut Vec<Insn>, op: BpfOp, k: u32) -> Result<(), AllocErr
     }
 }
 
-/// Adds two branches: to block `i` where register 6 isn't 0, else to block `j`.
+/// Appends two branches: to block `i` if register 6 isn't 0, else to block `j`.
 fn push_branches(code: &mut Vec<Insn>, i: usize, j: usize) -> Result<(), AllocError>
     requires far { i ≤ MAX_PROGRAM }
     requires near { j ≤ MAX_PROGRAM }
@@ -188,7 +188,9 @@ fn push_block(code: &mut Vec<Insn>, program: &[Bpf], i: usize) -> Result<(), All
     }
 }
 
-/// The code of a program: a block of `BLOCK` words for each instruction. Or want of memory.
+/// Returns the code of a program: a block of `BLOCK` words for each instruction.
+///
+/// Errors: out of memory.
 pub fn bpf_code(alloc: Global, program: &[Bpf]) -> Result<Vec<Insn>, AllocError>
     requires program { IsProgram program.now }
     ensures exact { IfOk result (λ v. v.items ≡ bpf_code program.now) }

@@ -1,8 +1,9 @@
-//! The Alpha code of a program of classic BPF, and what it returns.
+//! Generates Alpha code for classic BPF programs, proved to return whether a program's value is
+//! nonzero.
 //!
-//! A block of twenty words stands for each instruction (`specs/Blocks`). The law of the crate is the
-//! simulation: from each state before the first word (`specs/Simulation`) the code returns 0 where
-//! the program's value on the packet is 0, else 1.
+//! Each instruction becomes a block of twenty words (`specs/Blocks`). The crate's main theorem is
+//! the simulation: from each state before the first word that satisfies `StartsOn`
+//! (`specs/Simulation`), the code returns 0 if the program's value on the packet is 0, else 1.
 #![tactic(auto)]
 
 mod blocks;

@@ -1,4 +1,4 @@
-//! The words of which blocks are made.
+//! The instructions of which blocks are made.
 
 ghost use Rattle.std.specs.Prelude.{◌≡◌, ◌*◌, ◌<◌, ◌≤◌, pos};
 ghost use Rattle.alpha_words.specs.declared.insn.Insn.TheVariants.{Ldq, Oper};
@@ -9,7 +9,7 @@ use alpha_words::{Insn, Reg, Rhs};
 use bpf_words::BpfTest;
 use word_ops::Op;
 
-/// `rc := ra op n`.
+/// Returns the instruction `rc := ra op n`.
 pub fn by_literal(op: Op, ra: u32, n: u8, rc: u32) -> Insn
     requires from { ra < 32 }
     requires to { rc < 32 }
@@ -23,7 +23,7 @@ pub fn by_literal(op: Op, ra: u32, n: u8, rc: u32) -> Insn
     }
 }
 
-/// `rc := ra op rb`.
+/// Returns the instruction `rc := ra op rb`.
 pub fn by_register(op: Op, ra: u32, rb: u32, rc: u32) -> Insn
     requires from { ra < 32 }
     requires with { rb < 32 }
@@ -38,7 +38,7 @@ pub fn by_register(op: Op, ra: u32, rb: u32, rc: u32) -> Insn
     }
 }
 
-/// Loads a quadword of the packet, counted from the first.
+/// Returns the instruction that loads quadword `quad` of the packet, counted from 0, into `ra`.
 pub fn load_quad(ra: u32, quad: u32) -> Insn
     requires register { ra < 32 }
     requires inside { quad < 8 }
@@ -51,7 +51,7 @@ pub fn load_quad(ra: u32, quad: u32) -> Insn
     }
 }
 
-/// `k` in a register, by its four bytes, the highest first.
+/// Returns code that puts the constant `k` into register `r`, by its four bytes, big-endian.
 pub fn constant_code(r: u32, k: u32) -> [Insn; 7]
     requires { r < 32 }
     ensures exact { result ≡ constant_code r k }
@@ -79,7 +79,8 @@ fn shift_in(n: u32, r: u32) -> Insn
     }
 }
 
-/// Byte `n` of a load into A: it is byte `at` of the quadword in register `q`.
+/// Returns code that moves byte `n` of a load into A; it is byte `at` of the quadword in register
+/// `q`.
 pub fn byte_code(n: u32, q: u32, at: u32) -> [Insn; 4]
     requires register { q < 32 }
     requires byte { at < 8 }
@@ -93,7 +94,7 @@ pub fn byte_code(n: u32, q: u32, at: u32) -> [Insn; 4]
     ]
 }
 
-/// The register of the quadword that has byte `n` of a load at `k`.
+/// Returns the number of the register whose quadword has byte `n` of a load at offset `k`.
 pub fn quad_reg(k: u32, n: u32) -> u32
     requires small { k ≤ 64 }
     requires few { n ≤ 4 }
@@ -103,7 +104,7 @@ pub fn quad_reg(k: u32, n: u32) -> u32
     if (k + n) / 8 == k / 8 { 2 } else { 3 }
 }
 
-/// The test of a jump into register 6.
+/// Returns the instruction that puts the result of a jump's test into register 6.
 pub fn test_code(test: BpfTest) -> Insn
     ensures exact { result ≡ test_code test }
 {

@@ -1,4 +1,4 @@
-//! Programs of classic BPF as accepted containers.
+//! Compiling programs of classic BPF to accepted containers.
 
 ghost use Rattle.std.specs.Prelude.{◌≡◌, IfOk, Ok};
 ghost use Rattle.proof_container.specs.Encoding.{encoding_of};
@@ -19,7 +19,7 @@ use proof_container::{Head, View, write};
 use std::alloc::{AllocError, Global};
 use term_table::{Places, Table};
 
-/// The container of a program without a proof. Fails only for want of memory.
+/// Returns the container of a program without a proof. Errors: out of memory.
 fn bare(alloc: Global, policy: &Policy, program: &[Bpf]) -> Result<Vec<u8>, AllocError>
     requires policy { policy.now ≡ built_in Filter }
     requires program { IsProgram program.now }
@@ -75,16 +75,18 @@ fn with_proof(
     }
 }
 
-/// Compiles a program to a container that the gate accepts under `filter`, and whose code returns
-/// 0 on a packet of 64 bytes or more where the program's value is 0, else 1. The container has the
-/// words that the assembler writes for the program's code, two invariants an instruction, and the
-/// proof that the class of easy conditions gives: what `prove` makes of the container without one.
+/// Compiles a program to the bytes of a container that the gate accepts under `filter`. On a packet
+/// of 64 bytes or more its code returns 0 if the program's value is 0, else 1. The container has
+/// the words that the assembler writes for the program's code, two invariants for each instruction,
+/// and the proof that the class of easy conditions gives: what `prove` makes of the container
+/// without one.
 ///
-/// Errors: `Memory`, where there was no memory, and `Results`, where the search of the proof kept
-/// more results than its limit; they say nothing of `program`. Every program has a container.
+/// `program` is a program, as `bpf_words::read_bpf` promises.
 ///
-/// Asks for a program, as `bpf_words::read_bpf` promises. Source: McCanne and Jacobson, The BSD
-/// Packet Filter, USENIX 1993.
+/// Errors: `Memory`, if there was no memory, and `Results`, if the search for the proof cached more
+/// results than its limit. They say nothing about `program`: every program has a container.
+///
+/// Source: McCanne and Jacobson, The BSD Packet Filter, USENIX 1993.
 pub fn compile(alloc: Global, program: &[Bpf]) -> Result<Vec<u8>, Exhausted>
     requires { IsProgram program.now }
     ensures compiled { IfOk result (λ out. IsCompiled program.now out.items) }

@@ -101,7 +101,7 @@ fn end_place(i: usize, op: BpfOp) -> u32
     (BLOCK * i + straight_len(op)) as u32
 }
 
-/// What holds at the end of a block: `last` where it returns, else `packet`.
+/// Returns the invariant at the end of a block: `last` if the block returns, else `packet`.
 fn end_id(op: BpfOp, packet: Id, last: Id) -> Id
     ensures { (table : TableView)
         → IsIdOf table (encoding_in machine_context packet_invariant) packet
@@ -150,8 +150,10 @@ fn ids_of(
     Ok(ids)
 }
 
-/// The invariants of the program's code under `filter`, as terms of the table. Fails only for
-/// want of memory.
+/// Appends the invariants of the program's code under `filter` to the table, as terms, and returns
+/// each with the index of its word.
+///
+/// Errors: out of memory.
 pub fn encode_invs(
     alloc: Global,
     table: &mut Table,

@@ -1,4 +1,4 @@
-//! The words of code.
+//! The words of code as bytes.
 
 ghost use Rattle.std.specs.Prelude.{◌≡◌, IfOk};
 ghost use Rattle.pcc_asm.specs.Words.{insn_word, code_bytes};
@@ -18,7 +18,9 @@ fn word_of(insn: Insn) -> u32
     encode(insn, Profile::One)
 }
 
-/// The words of code, the lowest byte of each first. Fails only for want of memory.
+/// Returns the words of the code as bytes, each word little-endian.
+///
+/// Errors: out of memory.
 #[tactic(auto, using(pcc_asm::proofs::Written::all_written))]
 pub fn bytes_of(alloc: Global, code: &[Insn]) -> Result<Vec<u8>, AllocError>
     requires { AreOneInsns code.now }

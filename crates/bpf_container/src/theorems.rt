@@ -1,4 +1,4 @@
-//! What holds of the definitions, with nothing to run.
+//! Theorems about the definitions; nothing here runs.
 
 ghost use Rattle.std.specs.Prelude.{◌≡◌, ℕ, List, Ok, Some, false};
 ghost use Rattle.policy_set.specs.declared.kind.PolicyKind.TheVariants.{Filter};
@@ -19,12 +19,13 @@ ghost use Rattle.bpf_container.specs.Contents.{AreCodeBytes, bpf_contents};
 
 use prover_class::class_laws;
 
-/// What the container of a program holds, with any bytes that encode its code, are contents. Their
-/// encoding passes the clauses of the gate before the proof, with the program's code and the flags
-/// of the words that have an invariant. What `prove` makes of that encoding is the encoding of the
-/// contents with the class's proof. That is accepted under `filter`, and whatever code it is
-/// accepted with gives the program's values. So `prove` makes of it a container that is all this,
-/// and does with the bytes that the assembler writes for the code.
+/// States the theorems about the container of a program. What it holds, with any bytes that encode
+/// the program's code, are contents. Their encoding passes the checks of the gate before the proof,
+/// with the program's code and the flags of the words that have an invariant. What `prove` makes of
+/// that encoding is the encoding of the contents with the class's proof. That is accepted under
+/// `filter`, and whatever code it is accepted with gives the program's values. So `prove` makes of
+/// it a container that is all this; it also does so with the bytes that the assembler writes for
+/// the code.
 pub fn laws()
     ensures contents { (program : List Bpf) (code : List ℕ) → IsProgram program
         → AreCodeBytes program code → IsContents (bpf_contents program code) }

@@ -1,10 +1,11 @@
-//! The code of a program of classic BPF under the policy `filter`.
+//! Theorems: under `filter`, a BPF program's code returns 1 if its value is nonzero, else 0.
 //!
-//! The layer above uses that from the policy's start on a packet the code of a program returns what
-//! the program's value says (`laws`), and that it is code which any invariants cut and which isn't
-//! long when it is unfolded (`code_laws`). Programs and their values stand in bpf_words, their code
-//! in bpf_code's `specs/Blocks`, starts in packet_store's `specs/PolicyStarts`, what a packet comes
-//! to in its `specs/Results`, and what code is in alpha_cfg's `specs/Flow` and `specs/Cuts`.
+//! From the policy's start state on a packet, the code of a program returns that flag (`laws`). The
+//! code is well formed, any invariants cut it, and its unfolded length is small (`code_laws`).
+//! bpf_words defines programs and their values, bpf_code's `specs/Blocks` their code,
+//! packet_store's `specs/PolicyStarts` starts and `specs/Results` the results of packets, and
+//! alpha_cfg's `specs/Flow` and `specs/Cuts` well-formed code and cuts.
+//!
 //! Source: McCanne and Jacobson, The BSD Packet Filter, USENIX 1993, section 3.
 #![tactic(auto)]
 

@@ -1,4 +1,4 @@
-//! What holds of the definitions, with nothing to run.
+//! Theorems about the definitions; nothing here runs.
 
 ghost use Rattle.std.specs.Prelude.{◌≡◌, ◌≢◌, ℕ, ◌*◌, ◌<◌, ◌≤◌, Bool, List, length, slice_get, Ok, Some};
 ghost use Rattle.alpha_words.specs.declared.insn.Insn.{Insn};
@@ -26,10 +26,11 @@ ghost use Rattle.bpf_code.specs.Blocks.{bpf_code, nonzero_flag};
 ghost use Rattle.bpf_code.specs.Simulation.{ReturnsValue, StartsOn};
 ghost use Rattle.word_ops.specs.declared.Profile.TheVariants.{One};
 
-/// The start of `filter` on a packet is a state from which the code of a program is run. So the
-/// code returns 0 where the program's value on the packet is 0, else 1, with 1,000 steps; and that
-/// is what the packet comes to, with twenty steps an instruction or more. Whatever the budget, no
-/// access is blocked. A packet is short where it has less than the 64 bytes that loads may read.
+/// States the theorems about runs under `filter`. The start of `filter` on a packet is a state from
+/// which the code of a program is run. So the code returns 0 if the program's value on the packet
+/// is 0, else 1, within 1,000 steps; this is also the packet's result, with a budget of twenty
+/// steps or more for each instruction. Whatever the budget, no access is blocked. A packet is too
+/// short if it has fewer than the 64 bytes that loads may read.
 pub fn laws()
     ensures starts { (packet : List ℕ) (setup : StartView)
         → start_of (built_in Filter) packet ≡ Some setup
@@ -49,11 +50,11 @@ pub fn laws()
         → packet_result (built_in Filter) code budget packet ≡ Short }
 {}
 
-/// The code of a program is code of the first profile: at most 1,024 words, each of which some word
-/// encodes, branches inside, and an end that it can't run off; and bytes that encode it are read as
-/// it. Each branch leads to the first word of a block, and each step leads forward; so no cycle is
-/// left uncut, whichever indices are annotated. Where the first word of each block is annotated,
-/// the unfolded length is at most twenty for each flag.
+/// States the theorems about a program's code as code of the first profile. It has at most 1,024
+/// words, each encodes an instruction, branches lead inside, and it can't run off its end; bytes
+/// that encode it are read as it. Each branch leads to the first word of a block, and each step
+/// leads forward, so no cycle is left uncut, whichever indices are annotated. If the first word of
+/// each block is annotated, the unfolded length is at most twenty for each flag.
 pub fn code_laws()
     ensures code { (program : List Bpf) → IsProgram program → IsCode (bpf_code program) }
     ensures profile { (program : List Bpf) → IsProgram program

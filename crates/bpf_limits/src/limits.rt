@@ -1,5 +1,5 @@
-//! The bound.
+//! The bound on entries.
 
-/// How many entries the proof of the condition of a program's code has at most, half of what a
+/// The maximal number of entries for the proof of the condition of a program's code, half of what a
 /// container may have.
 pub const MOST_ENTRIES: u32 = 131_072;

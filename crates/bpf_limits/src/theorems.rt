@@ -1,4 +1,4 @@
-//! What holds of the definitions, with nothing to run.
+//! Theorems about the definitions; nothing here runs.
 
 ghost use Rattle.std.specs.Prelude.{◌≡◌, ◌+◌, ◌≤◌, ◌++◌, ◌∷◌, [], List, length, Some, false};
 ghost use Rattle.term_table.specs.Tree.{Tree};
@@ -10,9 +10,9 @@ ghost use Rattle.bpf_vc.specs.Condition.{bpf_parts};
 ghost use Rattle.entry_limits.specs.Parts.{HoldsParts};
 ghost use Rattle.bpf_limits.specs.declared.limits.TheConstants.{MOST_ENTRIES};
 
-/// From the class's proof of a program's condition, behind other roots, a walk leaves at most
-/// `MOST_ENTRIES` trees, and as many more as a list has that holds the other roots and the parts of
-/// each of its trees.
+/// States the bound. From the class's proof of a program's condition, after other roots, a walk
+/// leaves at most `MOST_ENTRIES` trees, and as many more as the length of a list that holds the
+/// other roots and the parts of each of its trees.
 pub fn laws()
     ensures entries { (program : List Bpf) (proof : Tree) (others roots : List Tree)
         → IsProgram program → condition_proof false (bpf_parts program) ≡ Some proof

@@ -1,4 +1,4 @@
-//! What holds of the condition of a program's code, with nothing to run.
+//! Theorems about the verification condition of a program's code; nothing here runs.
 
 ghost use Rattle.std.specs.Prelude.{◌≡◌, ℕ, ◌+◌, ◌*◌, ◌≤◌, All, Contains, List, length, None, false};
 ghost use Rattle.alpha_cfg.specs.Cuts.{AreFlags, IsCut, unfolded_of};
@@ -15,11 +15,12 @@ ghost use Rattle.bpf_vc.specs.PartForms.{part_forms};
 ghost use Rattle.bpf_vc.specs.Condition.{HasClassProof, annotated_bpf, bpf_flags, bpf_parts};
 ghost use Rattle.bpf_vc.specs.Condition.{most_height};
 
-/// The code of a program with its invariants is annotated code: the flags are those of the words
-/// that have one, they cut the code, and its unfolded length is within the limit of conditions. The
-/// parts are those of its condition, one more than two an instruction, each one of 22 formulas.
-/// Each is easy, so none is the first that isn't, wherever their numbers begin, and the class's
-/// proof of all of them keeps to a weight and a height that grow with the number of instructions;
+/// States the theorems about the verification condition of a program's code. The code of a program
+/// with its invariants is annotated code: the flags are those of the words that have an invariant,
+/// they cut the code, and its unfolded length is within the limit of conditions. The parts are
+/// those of its condition, one more than two for each instruction, and each is one of 22 formulas.
+/// Each part is easy, so none is the first that isn't, wherever their numbers begin. The class's
+/// proof of all parts keeps to a weight and a height that grow with the number of instructions;
 /// heights are within the limit.
 pub fn laws()
     ensures annotated { (program : List Bpf) → IsProgram program

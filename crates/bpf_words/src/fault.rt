@@ -1,4 +1,4 @@
-//! Why bytes are no program.
+//! Why bytes aren't a program.
 
 ghost use Rattle.std.specs.Prelude.{◌≡◌, ◌≤◌, length};
 ghost use Rattle.bpf_words.specs.Names.{bpf_flaw_name, bpf_flaw_number};
@@ -6,38 +6,39 @@ ghost use Rattle.bpf_words.specs.Names.{bpf_flaw_name, bpf_flaw_number};
 use std::alloc::{AllocError, AllocFailed};
 use thiserror::Error;
 
-/// The most bytes that the name of a kind has.
+/// The maximal length in bytes of a kind's name.
 pub const MAX_KIND: usize = 8;
 
-/// The first thing that is wrong with bytes that are no program: with the length in bytes, the
-/// count of instructions, or the index of an instruction.
+/// The first thing that is wrong with bytes that aren't a program, with the length in bytes, the
+/// number of instructions, or the index of an instruction.
 #[derive(Clone, Copy, Debug, PartialEq, Eq, Error)]
 pub enum BpfFlaw {
-    /// The length is 0 or no multiple of eight.
-    #[error("{0} bytes are no instructions of eight bytes")]
+    /// The length in bytes is 0 or not a multiple of eight.
+    #[error("the file has {0} bytes; it must have a multiple of 8, and at least 8")]
     Size(u64),
     /// There are more than `MAX_PROGRAM` instructions.
-    #[error("{0} instructions are more than 40")]
+    #[error("the program has {0} instructions; at most 40 are supported")]
     Count(u64),
-    /// No instruction has this code.
-    #[error("instruction {0} has a code that no instruction has")]
+    /// No instruction of the subset has this code.
+    #[error("instruction {0} has an unsupported opcode")]
     Opcode(u64),
-    /// A load reads past the first `LOADABLE` bytes.
-    #[error("instruction {0} loads past the first 64 bytes")]
+    /// A load reads past the first `LOADABLE` bytes of the packet.
+    #[error("instruction {0} loads bytes past the first 64 of the packet")]
     Offset(u64),
-    /// A shift by more than 31.
-    #[error("instruction {0} shifts by more than 31")]
+    /// A shift is by more than 31 bits.
+    #[error("instruction {0} shifts by more than 31 bits")]
     Shift(u64),
     /// A jump leads past the last instruction.
-    #[error("instruction {0} jumps past the last instruction")]
+    #[error("instruction {0} jumps past the end of the program")]
     Jump(u64),
-    /// The last instruction doesn't return.
-    #[error("instruction {0}, the last, doesn't return")]
+    /// The last instruction isn't a return.
+    #[error("instruction {0}, the last, isn't a return")]
     NoReturn(u64),
 }
 
 impl BpfFlaw {
-    /// The kind's name, of at most `MAX_KIND` bytes, as the line of the fault shows it.
+    /// Returns the kind's name, of at most `MAX_KIND` bytes, as the line that reports the flaw
+    /// shows it.
     pub fn name(self) -> &'static str
         ensures exact { result.now ≡ bpf_flaw_name self }
         ensures short { length result.now ≤ MAX_KIND }
@@ -53,7 +54,7 @@ impl BpfFlaw {
         }
     }
 
-    /// The length, the count or the index.
+    /// Returns the length, number of instructions or index that the flaw holds.
     pub fn number(self) -> u64
         ensures exact { result ≡ bpf_flaw_number self }
     {
@@ -65,13 +66,13 @@ impl BpfFlaw {
     }
 }
 
-/// Why bytes give no program.
+/// Why reading bytes gave no program.
 #[derive(Clone, Copy, Debug, PartialEq, Eq, Error)]
 pub enum BpfFault {
-    /// The bytes are no program.
+    /// The bytes aren't a program.
     #[error("{0}")]
     At(BpfFlaw),
-    /// There was no memory for the program; that says nothing of the bytes.
+    /// There was no memory for the program; this says nothing about the bytes.
     #[error("out of memory")]
     Memory,
 }

@@ -3,60 +3,60 @@
 ghost use Rattle.std.specs.Prelude.{◌≡◌};
 ghost use Rattle.bpf_words.specs.Programs.{bpf_op};
 
-/// How many instructions a program has at most.
+/// The maximal number of instructions in a program.
 pub const MAX_PROGRAM: usize = 40;
 
-/// How many bytes, from the packet's first, a load may read; no packet of a program is shorter.
+/// How many bytes, from the packet's first on, a load may read; no packet of a program is shorter.
 pub const LOADABLE: usize = 64;
 
-/// An instruction as its fields. One that an instruction doesn't use may hold anything.
+/// An instruction as its fields. A field that the instruction doesn't use may have any value.
 #[derive(Clone, Copy, Debug, PartialEq, Eq)]
 pub struct Bpf {
-    /// What it does.
+    /// The opcode.
     pub code: u16,
-    /// How many instructions a jump passes over where its test holds.
+    /// How many instructions a jump skips if its test holds.
     pub jt: u8,
-    /// How many instructions a jump passes over where its test doesn't hold.
+    /// How many instructions a jump skips if its test doesn't hold.
     pub jf: u8,
-    /// An offset in bytes, a constant, a count of bits, or how many instructions to pass over.
+    /// An offset in bytes, a constant, a number of bits, or a number of instructions to skip.
     pub k: u32,
 }
 
-/// The test of a jump, of A against k.
+/// The test of a conditional jump, which compares A with k.
 #[derive(Clone, Copy, Debug, PartialEq, Eq)]
 pub enum BpfTest {
-    /// A is k.
+    /// A equals k.
     Jeq,
-    /// A is above k.
+    /// A is greater than k.
     Jgt,
-    /// A is k or above.
+    /// A is greater than or equal to k.
     Jge,
     /// A and k have a bit in common.
     Jset,
 }
 
-/// What an instruction does, with A, a register of 32 bits.
+/// What an instruction does; A is the accumulator, a register of 32 bits.
 #[derive(Clone, Copy, Debug, PartialEq, Eq)]
 pub enum BpfOp {
-    /// Loads the four bytes of the packet at k, the highest first.
+    /// Loads the four bytes of the packet at offset k, big-endian.
     Ld,
-    /// Loads the two bytes at k.
+    /// Loads the two bytes at offset k, big-endian.
     Ldh,
-    /// Loads the byte at k.
+    /// Loads the byte at offset k.
     Ldb,
     /// Loads k itself.
     LdImm,
     /// Adds k, modulo 2^32.
     Add,
-    /// Sets the bits of k.
+    /// Sets the bits of k (bitwise or).
     Or,
-    /// Keeps the bits of k.
+    /// Clears all bits but those of k (bitwise and).
     And,
-    /// Shifts A to the right by k.
+    /// Shifts A to the right by k bits.
     Rsh,
-    /// Passes over k instructions.
+    /// Skips k instructions.
     Ja,
-    /// Passes over jt instructions where the test holds, else over jf.
+    /// Skips jt instructions if the test holds, else jf.
     Jump(BpfTest),
     /// Returns k.
     Ret,
@@ -64,7 +64,7 @@ pub enum BpfOp {
     RetA,
 }
 
-/// What the code of an instruction says that it does; None where no instruction has this code.
+/// Returns what an instruction with this opcode does, or None if no instruction has the opcode.
 pub fn bpf_op(code: u16) -> Option<BpfOp>
     ensures exact { result ≡ bpf_op code }
 {

@@ -1,11 +1,10 @@
-//! Programs of classic BPF: how bytes are read as one, and its value on a packet.
+//! Classic BPF: reads bytes as a program, and computes a program's value on a packet.
 //!
 //! Source: McCanne and Jacobson, The BSD Packet Filter, USENIX 1993, section 3; without its index
-//! register and scratch memory. The layers above use that `read_bpf` gives the program that bytes
-//! are, or the first thing that is wrong with them, and that `bpf_value` is the program's value on
-//! a packet. What a program is stands in `specs/Programs`, which bytes are one and the first flaw in
-//! `specs/Reading`, what flaws mean in `specs/Flaws`, values in `specs/Values`, the names of the
-//! kinds of flaws in `specs/Names`.
+//! register and scratch memory. `read_bpf` returns the program that bytes encode, or the first
+//! thing that is wrong with them; `bpf_value` is the program's value on a packet. `specs/Programs`
+//! defines programs, `specs/Reading` which bytes are one and their first flaw, `specs/Flaws` what
+//! flaws mean, `specs/Values` values, and `specs/Names` the names of the kinds of flaws.
 #![tactic(auto)]
 
 mod fault;

@@ -1,4 +1,4 @@
-//! Bytes as a program.
+//! Reading bytes as a program.
 
 ghost use Rattle.std.specs.Prelude.{◌≡◌, ◌+◌, ◌*◌, ◌/◌, ◌<◌, ◌≤◌, length, Some, None, IfOk};
 ghost use Rattle.bpf_words.specs.declared.insn.TheConstants.{MAX_PROGRAM};
@@ -34,7 +34,7 @@ fn insns_of(alloc: Global, bytes: &[u8]) -> Result<Vec<Bpf>, AllocError>
     Ok(insns)
 }
 
-/// The flaw where the test is true.
+/// Returns the flaw if the test is true.
 fn flaw_if(test: bool, flaw: BpfFlaw) -> Option<BpfFlaw>
     ensures exact { result ≡ flaw_if test flaw }
 {
@@ -130,13 +130,14 @@ fn size_flaw(size: usize) -> Option<BpfFlaw>
     flaw_if(size / 8 > MAX_PROGRAM, BpfFlaw::Count((size / 8) as u64))
 }
 
-/// The program that bytes are: eight bytes an instruction, `code` (two bytes, the low one first),
-/// `jt`, `jf` and `k` (four bytes). What an instruction doesn't use of them isn't looked at.
+/// Returns the program that the bytes encode: eight bytes for each instruction, `code` (two bytes,
+/// little-endian), `jt`, `jf` and `k` (four bytes, little-endian). Fields that an instruction
+/// doesn't use aren't checked.
 ///
-/// Else the first that holds: the length is 0 or no multiple of eight; there are more than
-/// `MAX_PROGRAM` instructions; the least index whose instruction has a code that no instruction has,
-/// loads past the first `LOADABLE` bytes, shifts by more than 31, or jumps past the last
-/// instruction; the last instruction doesn't return. Or want of memory.
+/// Errors, the first that holds: the length is 0 or not a multiple of eight; there are more than
+/// `MAX_PROGRAM` instructions; an instruction (the one with the least index) has a code that no
+/// instruction has, loads past the first `LOADABLE` bytes, shifts by more than 31, or jumps past
+/// the last instruction; the last instruction doesn't return. Or out of memory.
 ///
 /// Source: McCanne and Jacobson, The BSD Packet Filter, USENIX 1993, section 3.
 pub fn read_bpf(alloc: Global, bytes: &[u8]) -> Result<Vec<Bpf>, BpfFault>

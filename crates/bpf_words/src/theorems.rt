@@ -1,4 +1,4 @@
-//! What holds of the definitions, with nothing to run.
+//! Theorems about the definitions; nothing here runs.
 
 ghost use Rattle.std.specs.Prelude.{◌≡◌, ℕ, List, Ok, Err};
 ghost use Rattle.bpf_words.specs.declared.insn.Bpf.{Bpf};
@@ -8,9 +8,10 @@ ghost use Rattle.bpf_words.specs.Programs.{IsProgram};
 ghost use Rattle.bpf_words.specs.Reading.{AreBytes, program_of, HasInsns};
 ghost use Rattle.bpf_words.specs.Values.{bpf_value, ComesTo};
 
-/// What is read has the instructions of all bytes, one for each eight, in their order, and is a
-/// program; a flaw means what it says, and those that are tried before it aren't there. A program comes to its value on a
-/// packet, and to no other.
+/// States the theorems about reading and values. A program that is read has the instructions of all
+/// bytes, one for each eight, in their order (`reads`), and is well formed (`program`). A flaw
+/// means what its kind says, and flaws that are tested before it don't hold (`means`). A program
+/// has its value on a packet (`comes_to`), and no other (`one`).
 pub fn laws()
     ensures reads { (bytes : List ℕ) (program : List Bpf) → program_of bytes ≡ Ok program
         → HasInsns bytes program }

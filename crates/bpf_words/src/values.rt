@@ -7,12 +7,12 @@ ghost use Rattle.bpf_words.specs.Values.{bpf_value, effect_at, jumps, op_effect}
 
 use crate::insn::{Bpf, BpfOp, BpfTest, bpf_op};
 
-/// What comes of an instruction.
+/// The effect of one instruction.
 #[derive(Clone, Copy, Debug, PartialEq, Eq)]
 pub enum BpfEffect {
-    /// The program goes on at this index with this A.
+    /// The program continues at this index with this A.
     GoesOn(usize, u32),
-    /// It returns this value.
+    /// The program returns this value.
     Returns(u32),
 }
 
@@ -79,8 +79,8 @@ fn effect_at(program: &[Bpf], packet: &[u8], i: usize, a: u32) -> BpfEffect
     }
 }
 
-/// The value of a program on a packet, as the program's own instructions give it from the first one
-/// on, A being 0 at first. The packet has at least `LOADABLE` bytes. It takes no memory.
+/// Returns the value of a program on a packet: the program's instructions run from the first one
+/// on, with A = 0 at the start. The packet has at least `LOADABLE` bytes. Takes no memory.
 ///
 /// Source: McCanne and Jacobson, The BSD Packet Filter, USENIX 1993, section 3.
 pub fn bpf_value(program: &[Bpf], packet: &[u8]) -> u32

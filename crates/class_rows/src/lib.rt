@@ -1,8 +1,8 @@
-//! Worked rows of the class of easy conditions: goals with the proofs that another implementation
-//! gives them.
+//! Test cases for the prover's fragment: goals with the proofs that another implementation gives
+//! them.
 //!
-//! Nothing stands on this crate. Its definitions are rows (`specs/`), which `prover_class` is held
-//! against by the prover; they say nothing of what the class is.
+//! No crate depends on this one. Its definitions are rows (`specs/`), against which Rattle checks
+//! `prover_class`; they don't define the class.
 #![tactic(auto)]
 
 ghost use Rattle.std.specs.Prelude.{true, false};
@@ -16,9 +16,10 @@ ghost use Rattle.class_rows.specs.Access.{access_rows};
 ghost use Rattle.class_rows.specs.Later.{later_sums, later_bits, later_bytes, later_others};
 ghost use Rattle.class_rows.specs.Counted.{counted_differences, counted_sums, uncounted};
 
-/// What a second implementation gives goals and parts of conditions, the class gives them: that proof,
-/// term for term, or none. An independent one makes the same containers of nearly all of these
-/// goals that the first profile's operators are in (of all rows but the last seven lists).
+/// States that the class gives goals and parts of conditions what a second implementation gives
+/// them: that proof, term for term, or none. An independent implementation also makes equal
+/// containers for nearly all of these goals that the first profile's operators are in (of all rows
+/// but the last seven lists).
 pub fn worked_rows()
     ensures small { AreWorked false small_rows }
     ensures code_that_returns { AreWorked false return_rows }

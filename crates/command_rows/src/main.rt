@@ -1,8 +1,8 @@
-//! Runs rows of `pcc` and of `pcc_view` over files and output in memory.
+//! Test runner for `pcc` and `pcc_view`, over files and output in memory.
 //!
-//! The arguments name files of the folder that it runs in: one that ends in `.rows` is run, and any
-//! other is hexadecimal text, whose bytes stand as a file of that name before every row behind it.
-//! Rows in files whose names begin with `view-` are of `pcc_view`, the others of `pcc`.
+//! The arguments name files of the current folder. A file whose name ends in `.rows` is run; any
+//! other file is hexadecimal text, whose bytes are the file of that name for every later row. Rows
+//! in files whose names begin with `view-` are for `pcc_view`, the others for `pcc`.
 #![tactic(auto)]
 
 use anyhow::Result;

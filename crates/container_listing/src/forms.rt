@@ -20,8 +20,8 @@ use source_text::MAX_FORM_TEXT;
 use std::alloc::Global;
 use term_table::{Id, Table};
 
-/// The formulas of the invariants, which have type form over the signature in the context, where
-/// the text of each is short.
+/// Returns the formulas of the invariants, which have type form over the signature in the context,
+/// if the text of each is short.
 fn short_in(
     alloc: Global,
     table: &mut Table,
@@ -52,8 +52,9 @@ fn short_in(
     Ok(forms)
 }
 
-/// The formulas of the invariants, which have type form over the signature in the context of code
-/// with that bound, where the text of each is short. The sizes are those of the table's terms.
+/// Returns each invariant's index with its formula, if the text of each formula is short; else
+/// `Stop` says why not. The invariants have type form over the signature, in the context of code
+/// with that step bound. `sizes` are the node counts of the table's terms.
 pub fn short_forms(
     alloc: Global,
     table: &mut Table,

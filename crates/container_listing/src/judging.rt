@@ -1,4 +1,4 @@
-//! What makes a container a source.
+//! Checks whether a container can be shown as a source.
 
 ghost use Rattle.std.specs.Prelude.{◌≡◌, ◌≤◌, ◌<◌, [], length, map, nat_lt};
 ghost use Rattle.std.specs.Prelude.{is_some, IfSome};
@@ -29,7 +29,7 @@ use std::alloc::{AllocError, Global};
 use term_table::{Id, Node, Table};
 use vcgen::MAX_HEIGHT;
 
-/// The code of the container, in the profile of its version.
+/// Decodes the code of the container, in the profile of its version; `Stop` says if it isn't code.
 pub fn code_in(alloc: Global, container: &Container<'_>) -> Result<Code, Stop>
     requires contents { IsContents (contents_of container.now) }
     ensures { Finds (λ code. code) (listed_code (contents_of container.now)) result }
@@ -97,7 +97,7 @@ fn has_high_proof(table: &Table, proof: Option<Id>) -> bool
     }
 }
 
-/// That no root is too high.
+/// Checks that no root's term is too high.
 pub fn low(container: &Container<'_>) -> Result<(), Stop>
     requires canonical { IsCanonical container.now }
     ensures { Finds (λ none. none) (if_low (roots (contents_of container.now))) result }
@@ -115,8 +115,8 @@ pub fn low(container: &Container<'_>) -> Result<(), Stop>
     Ok(())
 }
 
-/// That each invariant is a formula over the context of code with that bound in the signature. One
-/// memory of at most `MOST_RESULTS` judgements serves all.
+/// Checks that each invariant is a formula of the signature, over the context of code with that
+/// step bound. One memo of at most `MOST_RESULTS` judgements serves all invariants.
 pub fn formed(
     alloc: Global,
     table: &mut Table,

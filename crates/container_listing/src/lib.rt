@@ -1,12 +1,12 @@
-//! Containers as text.
+//! Disassembler: prints a container as source that assembles back into it, or else as comments.
 //!
-//! The layers above use that `list` gives the listing of the container in the bytes: where the
-//! container holds code and formulas, a source, and else what it holds in comments; and that such a
-//! source is assembled into the container again, but for lemmas and proof (`laws`). Which of both it
-//! is stands in `specs/Listing`, the source in `specs/Sources`, the comments in `specs/Plain`, what
-//! is said of words in `specs/Words`, the notes in `specs/Notes`, what a source comes to in
-//! `specs/Laws`. How code with invariants is printed stands in source_text, an instruction in
-//! insn_text, an entry in entry_text; when a term is too high or no formula, in pcc_gate.
+//! `list` returns the listing of the container in the bytes: a source if the container holds
+//! well-formed code and formulas, else its contents in comments. Such a source assembles into the
+//! container again, but for lemmas and proof (`laws`). `specs/Listing` says which of the two it is,
+//! `specs/Sources` defines the source, `specs/Plain` the comments, `specs/Words` what comments say
+//! of instruction words, `specs/Notes` the notes, and `specs/Laws` what a source assembles into.
+//! source_text defines how code with invariants is printed, insn_text an instruction, entry_text an
+//! entry; pcc_gate defines when a term is too high or isn't a formula.
 #![tactic(auto)]
 
 mod forms;

@@ -1,4 +1,4 @@
-//! Listing the container in bytes.
+//! Listing the container that bytes encode.
 
 ghost use Rattle.std.specs.Prelude.{◌≡◌, ◌≤◌, ◌*◌, ◌<◌, length, map, IfOk};
 ghost use Rattle.alpha_cfg.specs.Flow.{IsCode};
@@ -93,7 +93,7 @@ fn source_of(alloc: Global, container: Container<'_>, lines: &[u32]) -> Result<V
     printed(alloc, held.code, lines, code.insns(), &invs, &notes)
 }
 
-/// The container in the bytes in comments, and why it is no source.
+/// Returns the container in the bytes as comments, and why it isn't shown as a source.
 fn comments_of(alloc: Global, bytes: &[u8], why: NoSource) -> Result<Vec<u8>, ListFault>
     ensures { Reports (λ v. v.items) (comments_in bytes.now why) result }
 {
@@ -103,17 +103,17 @@ fn comments_of(alloc: Global, bytes: &[u8], why: NoSource) -> Result<Vec<u8>, Li
     }
 }
 
-/// The listing of the container in `bytes`.
+/// Returns the listing of the container in `bytes`.
 ///
-/// It is a source with the container's code and invariants, where the code bytes are code, no term
-/// is higher than `vcgen::MAX_HEIGHT`, each invariant is a formula of the version's signature, and
-/// no text is too long for a source. Each instruction's comment is its index, its word and, where
-/// `lines` has so many, a line of another source; notes behind the code say the rest. Else all of
-/// it is comments, with each word as an instruction, and the entries that invariants are made of;
-/// the last one says why it is no source.
+/// The listing is a source with the container's code and invariants if the code bytes are code, no
+/// term is higher than `vcgen::MAX_HEIGHT`, each invariant is a formula of the version's signature,
+/// and no text is too long for a source. Each instruction's comment is its index, its word and, if
+/// `lines` has so many members, a line number of another source; notes after the code list the
+/// rest. Otherwise all lines are comments: each word as an instruction, and the entries that the
+/// invariants are made of; the last line says why the listing isn't a source.
 ///
-/// Errors: `TooLong` and `Malformed` exactly where `bytes` are no container; `Memory`, and
-/// `Results` past `lf_check::MOST_RESULTS` judgements of the invariants, say nothing of them.
+/// Errors: `TooLong` and `Malformed` exactly if `bytes` aren't a container. `Memory`, and `Results`
+/// past `lf_check::MOST_RESULTS` judgements of the invariants, say nothing about `bytes`.
 pub fn list(alloc: Global, bytes: &[u8], lines: &[u32]) -> Result<Vec<u8>, ListFault>
     ensures exact { Reports (λ v. v.items) (listing_of bytes.now lines.now) result }
 {

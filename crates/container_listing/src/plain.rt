@@ -1,4 +1,4 @@
-//! A container in comments.
+//! Printing a container as comments.
 
 ghost use Rattle.std.specs.Prelude.{◌≡◌, ◌+◌, ◌*◌, ◌≤◌, ◌<◌, ◌^◌, ◌++◌, length, map, codes, OnOk};
 ghost use Rattle.std.specs.Prelude.{IfOk, IfSome};
@@ -245,7 +245,7 @@ fn push_comments(out: &mut Vec<u8>, lines: &[Vec<u8>]) -> Result<(), AllocError>
     }
 }
 
-/// What the container holds in comments, and why it is no source.
+/// Returns the contents of the container as comments, and `why` it isn't shown as a source.
 pub fn in_comments(
     alloc: Global,
     container: &Container<'_>,

@@ -7,7 +7,7 @@ use hex::encode;
 use itoa::Buffer;
 use std::alloc::{AllocError, Global};
 
-/// Appends a decimal number.
+/// Appends `n` as a decimal number.
 pub fn push_number(out: &mut Vec<u8>, n: u64) -> Result<(), AllocError>
     ensures { OnOk result (out.new.items ≡ out.old.items ++ decimal n) }
 {
@@ -15,7 +15,7 @@ pub fn push_number(out: &mut Vec<u8>, n: u64) -> Result<(), AllocError>
     out.extend_from_slice(buffer.format(n).as_bytes())
 }
 
-/// Appends each byte as two hexadecimal digits.
+/// Appends each byte as two lower-case hexadecimal digits.
 pub fn push_hex(alloc: Global, out: &mut Vec<u8>, bytes: &[u8]) -> Result<(), AllocError>
     ensures { OnOk result (out.new.items ≡ out.old.items ++ encode_lower bytes.now) }
 {

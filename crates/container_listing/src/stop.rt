@@ -1,4 +1,4 @@
-//! Why a container isn't listed, and why it is no source.
+//! Why a container isn't listed, and why it isn't shown as a source.
 
 ghost use Rattle.std.specs.Prelude.{◌≡◌};
 ghost use Rattle.container_listing.specs.Plain.{no_source_text};
@@ -11,17 +11,17 @@ use thiserror::Error;
 /// Why bytes have no listing.
 #[derive(Clone, Copy, Debug, PartialEq, Eq, Error)]
 pub enum ListFault {
-    /// There are so many bytes, more than `proof_container::MAX_BYTES`.
-    #[error("{0} bytes are too many for a container")]
+    /// The input has so many bytes, more than `proof_container::MAX_BYTES`.
+    #[error("the file has {0} bytes, more than a container may have")]
     TooLong(u64),
-    /// The bytes are no container: the offset of the first fault, and what is wrong there.
+    /// The bytes aren't a container: the offset of the first fault, and what is wrong there.
     #[error("at offset {0}, {1}")]
     Malformed(u64, Flaw),
     /// There was no memory for the listing.
     #[error("out of memory")]
     Memory,
-    /// More results would have been kept than `lf_check::MOST_RESULTS`.
-    #[error("too many results")]
+    /// The results cached would be more than `lf_check::MOST_RESULTS`.
+    #[error("checking the invariants would cache more results than the limit")]
     Results,
 }
 
@@ -35,14 +35,14 @@ impl From<AllocError> for ListFault {
     }
 }
 
-/// Why a container is shown as no source: the first of these.
+/// Why a container is shown as comments and not as a source: the first of these reasons that holds.
 #[derive(Clone, Copy)]
 pub enum NoSource {
-    /// The words are no code.
+    /// The words aren't code.
     NotCode,
     /// The term of a root is too high.
     TooHigh,
-    /// An invariant is no formula of the version's signature.
+    /// An invariant isn't a formula of the version's signature.
     NotForm,
     /// An invariant's text is too long for a line.
     LongInv,
@@ -51,7 +51,7 @@ pub enum NoSource {
 }
 
 impl NoSource {
-    /// The reason, as the last line of a listing has it.
+    /// Returns the reason as text, as the last line of a listing prints it.
     pub fn text(self) -> &'static str
         ensures { result.now ≡ no_source_text self }
     {
@@ -65,14 +65,14 @@ impl NoSource {
     }
 }
 
-/// Why a container isn't shown as a source.
+/// Why a container isn't shown as a source, or why that isn't known.
 #[derive(Clone, Copy)]
 pub enum Stop {
-    /// It isn't one.
+    /// The container isn't a source, for this reason.
     Not(NoSource),
     /// There was no memory.
     Memory,
-    /// More results would have been kept than the limit allows.
+    /// The results cached would be more than the limit.
     Results,
 }
 

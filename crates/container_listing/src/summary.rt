@@ -1,4 +1,4 @@
-//! Notes on what a container holds beside its code.
+//! Notes on what a container holds in addition to its code.
 
 ghost use Rattle.std.specs.Prelude.{◌≡◌, ◌+◌, ◌<◌, ◌^◌, ◌++◌, [], ◌∷◌, length, map, IfOk, OnOk};
 ghost use Rattle.std.specs.Prelude.{IfSome};
@@ -156,7 +156,7 @@ fn push_lemma_notes(
     }
 }
 
-/// The notes on what the container holds, whose terms are its entries.
+/// Returns the notes on what the container holds. The terms that they name are its entries.
 pub fn notes(alloc: Global, container: &Container<'_>) -> Result<Vec<Vec<u8>>, AllocError>
     requires canonical { IsCanonical container.now }
     ensures { IfOk result (λ v. map (λ n. n.items) v.items ≡ notes_of (contents_of container.now)) }

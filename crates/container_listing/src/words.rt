@@ -1,4 +1,4 @@
-//! What comments say of words of code.
+//! What comments say of instruction words.
 
 ghost use Rattle.std.specs.Prelude.{◌≡◌, ◌+◌, ◌*◌, ◌≤◌, ◌<◌, ◌++◌, length, map, IfOk, OnOk};
 ghost use Rattle.alpha_cfg.specs.CodeBytes.{code_word_at};
@@ -7,7 +7,7 @@ ghost use Rattle.container_listing.specs.Words.{indices_of, indexed_word, word_c
 use crate::push::{push_hex, push_number};
 use std::alloc::{AllocError, Global};
 
-/// The word at an index of the code's bytes.
+/// Returns the instruction word at index `i` of the code's bytes.
 pub fn word_at(code: &[u8], i: usize) -> u32
     requires { 4 * i + 4 ≤ length code.now }
     ensures { result ≡ code_word_at code.now i }
@@ -16,7 +16,7 @@ pub fn word_at(code: &[u8], i: usize) -> u32
     u32::from_le_bytes([code[at], code[at + 1], code[at + 2], code[at + 3]])
 }
 
-/// Appends the index of a word and the word.
+/// Appends the index `i` and the instruction word at it.
 pub fn push_word(alloc: Global, out: &mut Vec<u8>, code: &[u8], i: usize) -> Result<(), AllocError>
     requires { 4 * i + 4 ≤ length code.now }
     ensures { OnOk result (out.new.items ≡ out.old.items ++ indexed_word code.now i) }
@@ -40,7 +40,8 @@ fn comment(alloc: Global, code: &[u8], lines: &[u32], i: usize) -> Result<Vec<u8
     Ok(out)
 }
 
-/// The comments of all instructions, in order.
+/// Returns the comments of all instructions, in order: index, word, and the member of `lines` at
+/// that index if there is one.
 pub fn comments(alloc: Global, code: &[u8], lines: &[u32]) -> Result<Vec<Vec<u8>>, AllocError>
     ensures { IfOk result (λ v. map (λ c. c.items) v.items
         ≡ map (word_comment code.now lines.now) (indices_of code.now)) }
@@ -60,7 +61,7 @@ fn word_hint(code: &[u8], i: usize) -> u32
     word_at(code, i) & 0x3fff
 }
 
-/// The hints of all words, in order.
+/// Returns the hints of all words, in order: the 14 lowest bits of each.
 pub fn hints(alloc: Global, code: &[u8]) -> Result<Vec<u32>, AllocError>
     ensures { IfOk result (λ v. v.items ≡ map (word_hint code.now) (indices_of code.now)) }
 {

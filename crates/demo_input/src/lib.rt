@@ -1,7 +1,7 @@
-//! What `demo N` runs: a source of N loads and a loop, and sixteen packets.
+//! Generates the input of `demo N`: a source with N loads, and sixteen packets.
 //!
-//! The layer above assembles the source and runs its code on the packets, and uses that each is what
-//! the definition says (`specs/Sources`, `specs/Packets`).
+//! Source and packets are what `specs/Sources` and `specs/Packets` define; the layer above
+//! assembles the source and runs its code on the packets.
 #![tactic(auto)]
 
 mod packets;

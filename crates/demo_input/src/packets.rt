@@ -1,4 +1,4 @@
-//! The packets.
+//! Generating the packets of `demo`.
 
 ghost use Rattle.std.specs.Prelude.{◌≡◌, ◌≤◌, ◌<◌, ◌+◌, IfOk, length};
 ghost use Rattle.demo_input.specs.Packets as definition;
@@ -6,10 +6,12 @@ ghost use Rattle.demo_input.specs.Packets as definition;
 use crate::sources::MAX_DEMO;
 use std::alloc::{AllocError, Global};
 
-/// How many packets `demo` runs.
+/// The number of packets that `demo` runs.
 pub const PACKETS: u32 = 16;
 
-/// Packet number `k` of `demo n`, of 64 to 65,535 bytes. Fails only for want of memory.
+/// Returns packet number `k` of `demo n`, of 64 to 65,535 bytes.
+///
+/// Errors: out of memory.
 pub fn demo_packet(alloc: Global, n: u32, k: u32) -> Result<Vec<u8>, AllocError>
     requires loads { n ≤ MAX_DEMO }
     requires number { k < PACKETS }

@@ -1,4 +1,4 @@
-//! The source.
+//! Generating the source of `demo`.
 
 ghost use Rattle.std.specs.Prelude.{◌≡◌, ◌≤◌, ◌<◌, ◌+◌, ◌++◌, IfOk, length};
 ghost use Rattle.demo_input.specs.Sources as definition;
@@ -6,13 +6,13 @@ ghost use Rattle.demo_input.specs.Sources as definition;
 use itoa::Buffer;
 use std::alloc::{AllocError, Global};
 
-/// The most loads that `demo` takes.
+/// The maximal number of loads that `demo` takes.
 pub const MAX_DEMO: u32 = 400;
 
-/// More bytes than the source has with as many loads.
+/// An upper bound, in bytes, of the source's length with up to `MAX_DEMO` loads.
 pub const MAX_DEMO_SOURCE: usize = 65_536;
 
-/// The most bytes of the two lines of a load.
+/// An upper bound, in bytes, of the length of the two lines of a load.
 const LOAD: usize = 64;
 
 /// Register 2 is 0.
@@ -47,8 +47,9 @@ fn push_load(text: &mut Vec<u8>, j: u32) -> Result<(), AllocError>
     Ok(())
 }
 
-/// The text of the source with `n` loads, which is within the limit of a source. Fails only for want
-/// of memory.
+/// Returns the text of the source with `n` loads, which is within the limit of a source.
+///
+/// Errors: out of memory.
 pub fn demo_source(alloc: Global, n: u32) -> Result<Vec<u8>, AllocError>
     requires { n ≤ MAX_DEMO }
     ensures exact { IfOk result (λ text. text.items ≡ definition.demo_source n) }

@@ -1,10 +1,10 @@
-//! How many entries a container has at most.
+//! Theorems: an upper bound on the number of entries that a container needs.
 //!
-//! A container has an entry for each different tree that stands in its roots, so a list that holds
-//! the roots and the parts of each of its trees has no fewer (`laws`). A producer that knows its
-//! formulas and proofs so has a bound without walking them: the layer above puts such a list
-//! together, from all that stands in a tree (`specs/Parts`) and from trees whose parts are there.
-//! Entries are those of `proof_container`'s walk; the bound is this project's own.
+//! A container has an entry for each different tree that occurs in its roots. So a list that holds
+//! the roots and the parts of each of its trees has at least as many members (`laws`). A producer
+//! that knows its formulas and proofs has a bound without walking them: it builds such a list from
+//! all that occurs in a tree (`specs/Parts`) and from trees whose parts are in the list. Entries
+//! are those of `proof_container`'s walk; the bound is this project's own.
 #![tactic(auto)]
 
 mod theorems;

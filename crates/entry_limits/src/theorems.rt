@@ -1,14 +1,15 @@
-//! What holds of the definitions, with nothing to run.
+//! Theorems about the definitions; nothing here runs.
 
 ghost use Rattle.std.specs.Prelude.{◌≡◌, ◌≤◌, ◌∷◌, ◌++◌, List, length, true};
 ghost use Rattle.term_table.specs.Tree.{Tree};
 ghost use Rattle.proof_container.specs.Postorder.{AreEmitted, HasPartsFirst, entries, is_emitted};
 ghost use Rattle.entry_limits.specs.Parts.{HoldsParts, node_count, subtrees};
 
-/// From roots that a list holds, with the parts of each of its trees, a walk leaves at most as many
-/// trees as the list is long. All that stands in a tree is such a list, which holds the tree and is
-/// as long as the tree has nodes; so is one list behind another, and a list with one tree more, the
-/// parts of which it holds.
+/// States the theorems about lists that hold the parts of each of their trees. From roots that such
+/// a list holds, a walk leaves at most as many trees as the list is long (`few`). The subtrees of a
+/// tree are such a list (`subtrees`), which holds the tree (`root`) and is as long as the tree has
+/// nodes (`count`). Two such lists, one after the other, are such a list (`both`), and so is a list
+/// with one more tree in front whose parts it holds (`one_more`).
 pub fn laws()
     ensures few { (held roots : List Tree) → HoldsParts held → AreEmitted held roots
         → length (entries roots) ≤ length held }

@@ -56,7 +56,7 @@ fn word_at(place: u32) -> Option<&'static str>
     }
 }
 
-/// The word of a constant that formulas name and that is no operator.
+/// Returns the keyword of a constant that formulas name and that isn't an operator.
 fn formula_word(constant: u32) -> Option<&'static str>
     ensures { option_map (λ w. w.now) result ≡ formula_word constant }
 {
@@ -95,7 +95,7 @@ fn push_entry_name(out: &mut Vec<u8>, table: &Table, id: Id) -> Result<(), Alloc
     push_named(out, b'e', entry_number(table, id))
 }
 
-/// A part: its name where it is one word, else that of its entry.
+/// Appends a part: its name if that is one word, else the name of its entry.
 fn push_part(out: &mut Vec<u8>, table: &Table, id: Id) -> Result<(), AllocError>
     requires { IsKnown table.now id }
     ensures { OnOk result (out.new.items
@@ -117,7 +117,7 @@ fn push_part(out: &mut Vec<u8>, table: &Table, id: Id) -> Result<(), AllocError>
     }
 }
 
-/// A part behind a blank.
+/// Appends a part after a blank.
 fn push_next(out: &mut Vec<u8>, table: &Table, id: Id) -> Result<(), AllocError>
     requires { IsKnown table.now id }
     ensures { OnOk result (out.new.items
@@ -127,7 +127,7 @@ fn push_next(out: &mut Vec<u8>, table: &Table, id: Id) -> Result<(), AllocError>
     push_part(out, table, id)
 }
 
-/// A number behind a blank.
+/// Appends a number after a blank.
 fn push_next_number(out: &mut Vec<u8>, n: u64) -> Result<(), AllocError>
     ensures { OnOk result (out.new.items ≡ out.old.items ++ (32 ∷ decimal n)) }
 {
@@ -282,12 +282,13 @@ fn push_tree(out: &mut Vec<u8>, table: &Table, id: Id) -> Result<(), AllocError>
     }
 }
 
-/// Appends the entry of an id as a line without its end: `e`, its number, ` = `, and its tree with
-/// the parts by name, as in `e7 = ult e3 #4`. A variable is `#` and its number, 0 the nearest, a
-/// literal its decimal number, a constant the keyword that formulas have for it or else `c` and its
-/// number, a family of types `t` and its number; another part is `e` and the number of its entry.
+/// Appends the entry of `id` to `out` as a line without its line end: `e`, its number, ` = `, and
+/// its tree with the parts by name, as in `e7 = ult e3 #4`. A variable is `#` and its number, 0 the
+/// nearest. A literal is its decimal number. A constant is the keyword that formulas have for it,
+/// or else `c` and its number. A family of types is `t` and its number. Any other part is `e` and
+/// the number of its entry.
 ///
-/// Errors: want of memory alone; what is appended then is unspecified.
+/// Errors: out of memory; what is appended then is unspecified.
 pub fn push_entry(out: &mut Vec<u8>, table: &Table, id: Id) -> Result<(), AllocError>
     requires { IsKnown table.now id }
     ensures exact { OnOk result (out.new.items ≡ out.old.items ++ entry_line table.now.trees id) }

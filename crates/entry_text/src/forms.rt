@@ -19,7 +19,7 @@ use lf_signature::Known;
 use std::alloc::{AllocError, Global};
 use term_table::{Id, Table};
 
-/// The formula, where its text has at most so many bytes.
+/// Returns the formula if its text has at most `most` bytes.
 fn if_short(alloc: Global, formula: Form, most: u32) -> Result<Option<Form>, AllocError>
     ensures { IfOk result (λ o. option_map form_view o ≡ short_form most (form_view formula)) }
 {
@@ -31,12 +31,12 @@ fn if_short(alloc: Global, formula: Form, most: u32) -> Result<Option<Form>, All
     }
 }
 
-/// The formula that the term `id` encodes, where the formula's text has at most `most` bytes: None
-/// where it has more. The term has type form over `sig` in the context `ctx` of the machine's
+/// Returns the formula that the term `id` encodes if the formula's text has at most `most` bytes,
+/// and None if it has more. The term has type form over `sig` in the context `ctx` of the machine's
 /// variables alone, and its tree has `size` nodes, as `sizes` counts them. A tree of more than
 /// `most` nodes isn't read.
 ///
-/// Errors: want of memory alone; each id keeps its tree.
+/// Errors: out of memory; every id keeps its tree.
 pub fn short_form<S: Known>(
     table: &mut Table,
     sig: &S,

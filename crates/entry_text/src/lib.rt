@@ -1,10 +1,10 @@
-//! Entries of a term table as text, how large their trees are, and formulas with a short text.
+//! Prints term-table entries as text, counts tree nodes, and decodes formulas whose text is short.
 //!
-//! The layers above use that `push_entry` appends an entry as a line that names its parts
-//! (`specs/Entries`), that `sizes` counts the nodes of each tree in one pass over the table
-//! (`specs/Sizes`), and that `short_form` gives the formula of a term where the formula's text is
-//! short (`specs/Short`), without a look at a tree that is too large for that: entries share their
-//! parts, so a few hundred of them can hold a formula of 2^30 leaves.
+//! `push_entry` appends an entry as a line that names its parts (`specs/Entries`). `sizes` counts
+//! the nodes of each tree in one pass over the table (`specs/Sizes`). `short_form` returns the
+//! formula of a term if the formula's text is short (`specs/Short`), and never reads a tree that is
+//! too large for that: entries share their parts, so a few hundred of them can hold a formula of
+//! 2^30 leaves.
 #![tactic(auto)]
 
 mod entries;

@@ -30,10 +30,10 @@ fn node_size(sizes: &[u32], node: Node) -> u32
     }
 }
 
-/// How many nodes the tree of each entry of a table has, in the order of the entries; where that is
-/// more than 4,294,967,295 it answers that. It goes through the table once.
+/// Returns the number of nodes of each entry's tree, in the order of the entries, and 4,294,967,295
+/// for a tree that has more. It goes through the table once.
 ///
-/// Errors: want of memory alone.
+/// Errors: out of memory.
 pub fn sizes(alloc: Global, table: &Table) -> Result<Vec<u32>, AllocError>
     ensures exact { IfOk result (λ v. v.items ≡ map tree_size table.now.trees) }
 {

@@ -1,4 +1,4 @@
-//! The forms of operands behind mnemonics.
+//! The operand forms of mnemonics.
 
 ghost use Rattle.std.specs.Prelude.{◌≡◌};
 ghost use Rattle.asm_text.specs.Mnemonics.{mnemonic_of};
@@ -18,13 +18,13 @@ pub enum OperandForm {
     Branch,
     /// `label` or `$31,label`.
     Br,
-    /// Nothing, or `$31,($26),n`.
+    /// No operand, or `$31,($26),n`.
     Return,
-    /// Nothing.
+    /// No operand.
     Nothing,
 }
 
-/// The form of the operands behind the profile's mnemonic that the lexeme is.
+/// Returns the form of the operands of the profile's mnemonic that `lexeme` is.
 pub fn operand_form(profile: Profile, lexeme: &[u8]) -> OperandForm
     ensures { result ≡ form_of (mnemonic_of profile lexeme.now) }
 {

@@ -1,4 +1,4 @@
-//! What is said of the text of a formula.
+//! The report on the text of a formula.
 
 ghost use Rattle.std.specs.Prelude.{◌≡◌, ◌+◌, ◌-◌, ◌≤◌, ◌++◌, length, reverse};
 ghost use Rattle.std.specs.Prelude.{OnOk, IfOk, Some};
@@ -16,11 +16,11 @@ use formula_tree::Form;
 use std::alloc::{AllocError, Global};
 use word_ops::Profile;
 
-/// The most bytes of a formula's text. A formula has six bytes at least for each level of its
-/// height, so it is at most 4,096 high, as high as a stack of 8 MiB surely holds.
+/// The maximal length of a formula's text in bytes. A formula has at least six bytes for each level
+/// of its height, so it is at most 4,096 high, as high as a stack of 8 MiB surely holds.
 pub const MAX_FORMULA_TEXT: usize = 24_576;
 
-/// How many bytes stand before the first LF, or before the end.
+/// Returns the number of bytes before the first LF, or before the end.
 fn before_lf(text: &[u8]) -> usize
     ensures exact { result ≡ before_lf text.now }
     ensures within { result ≤ length text.now }
@@ -33,7 +33,7 @@ fn before_lf(text: &[u8]) -> usize
     text.len()
 }
 
-/// Where the last line begins: behind the last LF, or at the begin.
+/// Returns where the last line begins: after the last LF, or at the beginning.
 fn line_start(text: &[u8]) -> usize
     ensures exact { result ≡ length text.now - before_lf (reverse text.now) }
     ensures column { length text.now - result ≡ before_lf (reverse text.now) }
@@ -117,16 +117,17 @@ fn form_line(alloc: Global, form: &Form) -> Result<Vec<u8>, AllocError>
     Ok(out)
 }
 
-/// Says of `text` which formula it spells, as it is printed, or else where it is wrong: `form`, the
-/// position in bytes from 0 of the first token that may not stand where it stands, or of the end,
-/// and the kind of the fault; the line in which that place lies, without its LF; and a mark under
-/// the place. A byte that is neither a tab nor printable is shown as `?`. The report is right where
-/// the text spells a formula. An LF at the end of `text` doesn't count. The formula is one over the
-/// operators of profile 2 that may name the steps that are left, the widest that is read.
+/// Returns a report that prints the formula that `text` is, or else where it is wrong: `form`, the
+/// position in bytes from 0 of the first token that may not come where it does, or of the end, and
+/// the kind of the fault; the line in which that place lies, without its LF; and a mark under the
+/// place. A byte that is neither a tab nor printable is shown as `?`. The report is right if the
+/// text is a formula. An LF at the end of `text` doesn't count. The formula may use the operators
+/// of profile 2 and may name the remaining steps, the widest language that is read.
 ///
-/// Fails only for want of memory. The grammar is that of `formula_text::read_form`.
+/// `text` has at most `MAX_FORMULA_TEXT` bytes, since printing recurses. The grammar is that of
+/// `formula_text::read_form`.
 ///
-/// Asks that `text` has at most `MAX_FORMULA_TEXT` bytes: printing recurses.
+/// Errors: out of memory.
 #[tactic(auto, unfolding(crate::specs::FormReports::formula_report))]
 pub fn formula_lines(alloc: Global, text: &[u8]) -> Result<FormulaReport, AllocError>
     requires short { length text.now ≤ MAX_FORMULA_TEXT }

@@ -1,11 +1,10 @@
-//! Where a formula or a source is wrong: the line, with a mark under the place.
+//! Locates parse errors: prints the faulty line of a formula or source with a caret.
 //!
-//! The layer above uses that `formula_lines` says of a text which formula it spells, and that
-//! `source_lines` says of a text what source it spells, or else the first fault with its line and a
-//! mark. What is said stands in `specs/FormReports` and `specs/SourceReports`, how a line is shown
-//! with its mark in `specs/Marking`, where the mark of a source's fault stands in `specs/Spans`,
-//! and which operand is wrong in `specs/WrongOperands`. What is a fault, and which is the first, is
-//! said by formula_text, asm_text and pcc_asm alone.
+//! `formula_lines` reports which formula a text is, and `source_lines` what source a text is, or
+//! else the first fault with its line and a mark under the place. `specs/FormReports` and
+//! `specs/SourceReports` define the reports, `specs/Marking` how a line is shown with its mark,
+//! `specs/Spans` where the mark of a source's fault is, and `specs/WrongOperands` which operand is
+//! wrong. formula_text, asm_text and pcc_asm alone define what a fault is, and which is the first.
 #![tactic(auto)]
 
 mod forms;

@@ -1,4 +1,4 @@
-//! A line as it is shown, with a mark.
+//! Showing a line with a mark.
 
 ghost use Rattle.std.specs.Prelude.{◌≡◌, ◌++◌, map, take, drop, OnOk};
 ghost use Rattle.std.specs.Prelude.{decimal};
@@ -14,13 +14,13 @@ use std::alloc::AllocError;
 /// A place in a line, and how many bytes from there on the mark repeats.
 #[derive(Clone, Copy, Debug, PartialEq, Eq)]
 pub struct Span {
-    /// How many bytes stand before the place.
+    /// The number of bytes before the place.
     pub at: usize,
-    /// How many bytes are repeated.
+    /// The number of bytes that the mark repeats.
     pub count: usize,
 }
 
-/// Whether the byte is a tab, or from blank to tilde.
+/// Returns whether the byte is a tab, or printable ASCII (from blank to tilde).
 pub fn is_printable(byte: u8) -> bool
     ensures { result ≡ is_printable byte }
 {
@@ -49,7 +49,7 @@ fn push_shown(out: &mut Vec<u8>, bytes: &[u8]) -> Result<(), AllocError>
     Ok(())
 }
 
-/// Adds what stands under bytes before the mark.
+/// Appends the margin below the bytes before the mark.
 fn push_margin(out: &mut Vec<u8>, bytes: &[u8]) -> Result<(), AllocError>
     ensures { OnOk result (out.new.items ≡ out.old.items ++ map margin_byte bytes.now) }
 {
@@ -59,7 +59,7 @@ fn push_margin(out: &mut Vec<u8>, bytes: &[u8]) -> Result<(), AllocError>
     Ok(())
 }
 
-/// Adds bytes that are repeated behind the mark, if there are any.
+/// Appends the bytes that are repeated after the mark, if there are any.
 fn push_repeated(out: &mut Vec<u8>, bytes: &[u8]) -> Result<(), AllocError>
     ensures { OnOk result (out.new.items ≡ out.old.items ++ repeated bytes.now) }
 {
@@ -81,7 +81,7 @@ fn front(bytes: &[u8], count: usize) -> &[u8]
     }
 }
 
-/// What stands behind as many bytes, if anything does.
+/// Returns the bytes after the first `count`, if there are any.
 fn behind(bytes: &[u8], count: usize) -> &[u8]
     ensures { result.now ≡ drop count bytes.now }
 {
@@ -103,7 +103,7 @@ fn push_mark(out: &mut Vec<u8>, line: &[u8], span: Span) -> Result<(), AllocErro
     Ok(())
 }
 
-/// Adds the mark, where there is one.
+/// Appends the line of the mark, if there is one.
 fn push_mark_line(out: &mut Vec<u8>, line: &[u8], span: Option<Span>) -> Result<(), AllocError>
     ensures { OnOk result (out.new.items
         ≡ out.old.items ++ mark_lines line.now (option_map span_view span)) }
@@ -114,8 +114,9 @@ fn push_mark_line(out: &mut Vec<u8>, line: &[u8], span: Option<Span>) -> Result<
     }
 }
 
-/// Adds the line as it is shown, and the mark under it, where there is one. Fails only for want of
-/// memory.
+/// Appends the line as it is shown, and the mark under it if `span` is given.
+///
+/// Errors: out of memory.
 pub fn push_marked_line(
     out: &mut Vec<u8>,
     line: &[u8],
@@ -129,7 +130,9 @@ pub fn push_marked_line(
     push_mark_line(out, line, span)
 }
 
-/// Adds a number in decimal. Fails only for want of memory.
+/// Appends `number` in decimal.
+///
+/// Errors: out of memory.
 pub fn push_number(out: &mut Vec<u8>, number: u64) -> Result<(), AllocError>
     ensures { OnOk result (out.new.items ≡ out.old.items ++ decimal number) }
 {

@@ -1,4 +1,4 @@
-//! Which operand of a statement is wrong.
+//! Finding the wrong operand of a statement.
 
 ghost use Rattle.std.specs.Prelude.{◌≡◌, ◌+◌, ◌≤◌, ◌<◌, ◌∷◌, [], Option, length, drop, IfSome};
 ghost use Rattle.std.specs.Prelude.{IfNone};
@@ -19,14 +19,14 @@ use crate::tokens::token_from;
 use text_tokens::{Number, Token, read_decimal, read_number, register};
 use word_ops::Profile;
 
-/// What has to stand in an operand's place.
+/// What an operand's place expects.
 #[derive(Clone, Copy, Debug, PartialEq, Eq)]
 pub enum Wanted {
     /// A register.
     Register,
-    /// The register of this number.
+    /// The register with this number.
     Fixed(u8),
-    /// A number from as far below 0 on as the first, and below the second.
+    /// A number that is at least minus the first value, and below the second.
     Number(u64, u64),
     /// A register, or a number from 0 to 255.
     Right,
@@ -39,7 +39,7 @@ struct Integer {
     size: Number,
 }
 
-/// A lexeme with the positions of its first byte and of the byte behind it.
+/// A lexeme with the positions of its first byte and of the byte after it.
 #[derive(Clone, Copy)]
 struct Found<'t> {
     at: usize,
@@ -92,7 +92,7 @@ fn names_register(number: u8, lexeme: &[u8]) -> bool
     }
 }
 
-/// Whether the lexeme is what has to stand there.
+/// Returns whether the lexeme is what its place expects.
 fn is_right(wanted: Wanted, lexeme: &[u8]) -> bool
     ensures { result ≡ is_right wanted lexeme.now }
 {
@@ -149,7 +149,7 @@ fn lexeme_count(text: &[u8], from: usize) -> usize
     count
 }
 
-/// What has to stand at the lexemes of operands of this form, of which there are so many.
+/// Returns what is expected at each lexeme of operands of this form, if there are `count` lexemes.
 fn wanted_by(form: OperandForm, count: usize) -> &'static [Wanted]
     ensures { result.now ≡ wanted_by form count }
 {
@@ -177,7 +177,7 @@ fn wanted_by(form: OperandForm, count: usize) -> &'static [Wanted]
     }
 }
 
-/// The first of the lexemes from position `from` on that isn't what has to stand there.
+/// Returns the first of the lexemes from position `from` on that isn't what its place expects.
 fn first_wrong(wanted: &[Wanted], text: &[u8], from: usize) -> Option<Span>
     requires { from ≤ length text.now }
     ensures within { IfSome result (λ s. s.at ≤ length text.now) }
@@ -202,7 +202,7 @@ fn first_wrong(wanted: &[Wanted], text: &[u8], from: usize) -> Option<Span>
     }
 }
 
-/// The first of the statement's operands that is wrong.
+/// Returns the place of the first of the statement's operands that is wrong, or None.
 pub fn wrong_operand(profile: Profile, text: &[u8]) -> Option<Span>
     ensures within { IfSome result (λ s. s.at ≤ length text.now) }
     ensures exact { option_map span_view result

@@ -1,4 +1,4 @@
-//! Reading a formula, with the place of its fault.
+//! Parsing a formula, with the place of its fault.
 
 ghost use Rattle.std.specs.Prelude.{IfErr};
 ghost use Rattle.formula_tree.specs.Views.{form_view};
@@ -11,8 +11,10 @@ use formula_tree::Form;
 use std::alloc::Global;
 use word_ops::Profile;
 
-/// The formula that the text is parsed as, or the first fault, whose place lies in the text or at
-/// its end.
+/// Parses the text as a formula over the operators of the profile; `left` says whether it may name
+/// the remaining steps.
+///
+/// Errors: the first fault, whose place lies in the text or at its end, or out of memory.
 #[tactic(auto, using(crate::proofs::Places::fault_within))]
 pub fn form_in(alloc: Global, text: &[u8], profile: Profile, left: bool) -> Result<Form, TextFault>
     ensures exact { Parses form_view (parsed_form profile left text.now) result }

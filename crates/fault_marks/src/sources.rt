@@ -1,4 +1,4 @@
-//! What is said of the text of a source.
+//! The report on the text of a source.
 
 ghost use Rattle.std.specs.Prelude.{◌≡◌, ◌≤◌, ◌++◌, length, is_some, OnOk, IfOk, decimal};
 ghost use Rattle.std.specs.Option.{option_map};
@@ -157,8 +157,8 @@ fn asm_flaw_lines(alloc: Global, text: &[u8], flaw: AsmFlaw) -> Result<Vec<u8>, 
     }
 }
 
-/// The source that the text is parsed as in the profile of the version, or the first fault;
-/// invariants may name the steps that are left where there is a bound.
+/// Parses the text as a source in the profile of the version; invariants may name the remaining
+/// steps if there is a bound. Errors: the first fault.
 fn source_in(
     alloc: Global,
     version: u32,
@@ -226,21 +226,23 @@ fn code_lines(
     }
 }
 
-/// Says of `text` what source it spells that is assembled in `version` of containers, 1 to 4, with
-/// the bound: how many instructions, labels and invariants it has. Else it says the first line that
-/// is wrong, from 1, or 0 where there is no instruction, and the kind of the fault, as `pcc asm`
-/// does; where the text has such a line, the line itself, a byte that is neither a tab nor
-/// printable as `?`; and a mark under what is wrong with it: the first token where no mnemonic
-/// stands, the first operand that is no register or out of its range (each repeated behind the
-/// mark), the place in a formula, the first byte that isn't printable, the label of a branch, and
-/// else the first byte that isn't blank. The report is right where the source is assembled. No
-/// fault depends on a policy.
+/// Returns a report on the source that `text` is, assembled in `version` of containers, 1 to 4,
+/// with the step bound `bound`: how many instructions, labels and invariants it has.
 ///
-/// Fails only for want of memory. The grammar is that of `asm_text::read_source`, and the faults
-/// are those of `pcc_asm::assemble` too.
+/// Else the report has the first line that is wrong, numbered from 1, or 0 if there is no
+/// instruction, and the kind of the fault, as `pcc asm` prints them. If the text has such a line,
+/// the report shows the line, a byte that is neither a tab nor printable as `?`, and a mark under
+/// what is wrong with it. That is the first token if it isn't a mnemonic; the first operand that
+/// isn't a register or is out of its range (the mark's line repeats the token or operand); the
+/// place in a formula; the first byte that isn't printable; the label of a branch; and else the
+/// first byte that isn't blank. The report is right if the source is assembled. No fault depends on
+/// a policy.
 ///
-/// Asks that `text` has at most `MAX_SOURCE` bytes, and that the bound is there exactly in version
-/// 3, from 1 to `proof_container::MAX_BOUND`.
+/// `text` has at most `MAX_SOURCE` bytes, and `bound` is given exactly in version 3, from 1 to
+/// `proof_container::MAX_BOUND`. The grammar is that of `asm_text::read_source`, and the faults are
+/// those of `pcc_asm::assemble` too.
+///
+/// Errors: out of memory.
 #[tactic(auto, using(crate::proofs::SourceSaid::said_source, crate::proofs::SourceSaid::said_flaw))]
 pub fn source_lines(
     alloc: Global,

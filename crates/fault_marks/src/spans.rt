@@ -1,4 +1,4 @@
-//! Where the mark of a fault stands in its line.
+//! Where the mark of a fault goes in its line.
 
 ghost use Rattle.std.specs.Prelude.{◌≡◌, ◌+◌, ◌^◌, ◌<◌, ◌≤◌, length, drop, IfOk, IfSome, Some};
 ghost use Rattle.std.specs.Option.{option_map};
@@ -35,7 +35,7 @@ fn blanks_before(line: &[u8]) -> usize
     line.len()
 }
 
-/// How many bytes stand before the first that isn't printable.
+/// Returns the number of bytes before the first that isn't printable.
 fn printable_before(line: &[u8]) -> usize
     ensures { result ≡ printable_before line.now }
 {
@@ -47,7 +47,7 @@ fn printable_before(line: &[u8]) -> usize
     line.len()
 }
 
-/// A mark at a place, behind which nothing is repeated.
+/// Returns a mark at a place that repeats nothing.
 fn mark_at(at: usize) -> Option<Span>
     ensures { option_map span_view result ≡ Some (at, 0) }
 {
@@ -86,7 +86,7 @@ fn last_token(text: &[u8]) -> Option<Span>
     Some(Span { at: last, count: 0 })
 }
 
-/// The place where the formula that begins at `from` is wrong, if it is.
+/// Returns the place at which the formula that begins at `from` is wrong, if it is.
 fn fault_behind(
     alloc: Global,
     profile: Profile,
@@ -109,7 +109,7 @@ fn fault_behind(
     }
 }
 
-/// The place in an invariant where its formula is wrong, if it is.
+/// Returns the place in an invariant at which its formula is wrong, if it is.
 fn wrong_formula(
     alloc: Global,
     profile: Profile,
@@ -159,7 +159,7 @@ fn operand_span(profile: Profile, line: &[u8]) -> Option<Span>
     in_line(place, wrong_operand(profile, text))
 }
 
-/// The mark of an invariant that is no formula.
+/// Returns the mark of an invariant that isn't a formula.
 fn formula_span(
     alloc: Global,
     profile: Profile,
@@ -185,7 +185,9 @@ fn label_span(line: &[u8]) -> Option<Span>
     in_line(place, last_token(text))
 }
 
-/// The mark of what is wrong with a line of a source. Fails only for want of memory.
+/// Returns the place of what is wrong with a line of a source, or None if the line gets no mark.
+///
+/// Errors: out of memory.
 pub fn flaw_span(
     alloc: Global,
     profile: Profile,
@@ -209,7 +211,8 @@ pub fn flaw_span(
     }
 }
 
-/// The mark of what is wrong with a line that is assembled.
+/// Returns the place of what is wrong with a line when it is assembled, or None if the line gets no
+/// mark.
 pub fn asm_flaw_span(flaw: AsmFlaw, line: &[u8]) -> Option<Span>
     ensures { option_map span_view result ≡ asm_flaw_span flaw line.now }
 {

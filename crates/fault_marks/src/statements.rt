@@ -1,4 +1,4 @@
-//! Lines of a source, and their statements.
+//! The lines of a source, and their statements.
 
 ghost use Rattle.std.specs.Prelude.{◌≡◌, ◌≤◌, ◌+◌, IfSome, length, slice_get};
 ghost use Rattle.std.specs.Option.{option_map};
@@ -33,7 +33,7 @@ fn line_at(text: &[u8], index: usize) -> Option<&[u8]>
     None
 }
 
-/// The line of a number from 1, if there is one.
+/// Returns the line with this number, counted from 1, or None if the text has no such line.
 pub fn numbered_line(text: &[u8], number: u32) -> Option<&[u8]>
     ensures { option_map (λ l. l.now) result ≡ numbered_line text.now number }
 {
@@ -43,7 +43,7 @@ pub fn numbered_line(text: &[u8], number: u32) -> Option<&[u8]>
     line_at(text, (number - 1) as usize)
 }
 
-/// What stands before `#`.
+/// Returns the bytes before `#`.
 fn before_comment(line: &[u8]) -> &[u8]
     ensures exact { result.now ≡ before_comment line.now }
     ensures within { length result.now ≤ length line.now }
@@ -89,7 +89,7 @@ fn is_label(lexeme: &[u8]) -> bool
     }
 }
 
-/// The first token, and the text behind it; `None` where there are only blanks.
+/// Returns the first token, and the text after it; `None` if there are only blanks.
 fn front(text: &[u8]) -> Option<(Token<'_, Punct>, &[u8])>
     ensures exact { option_map (λ p. (source_token (token_view p.0), p.1.now)) result
         ≡ front_token source_class text.now }
@@ -101,7 +101,7 @@ fn front(text: &[u8]) -> Option<(Token<'_, Punct>, &[u8])>
     }
 }
 
-/// The text behind the label at the front and its colon, if there is one.
+/// Returns the text after the label at the start and its colon, if there is one.
 #[tactic(auto, unfolding(asm_text::specs::SourceParsing::label_split))]
 fn split_label(text: &[u8]) -> Option<&[u8]>
     ensures exact { option_map (λ l. l.now) result
@@ -117,7 +117,7 @@ fn split_label(text: &[u8]) -> Option<&[u8]>
     if is_label(label) { Some(rest) } else { None }
 }
 
-/// What stands behind the label of a line's body, if it has one.
+/// Returns the text after the label of a line's body, if it has one.
 fn behind_label(body: &[u8]) -> &[u8]
     ensures exact { result.now ≡ behind_label body.now (label_split body.now) }
     ensures within { length result.now ≤ length body.now }
@@ -128,7 +128,8 @@ fn behind_label(body: &[u8]) -> &[u8]
     }
 }
 
-/// What stands behind the label of a line and before its comment, and where in the line it begins.
+/// Returns what comes after the label of a line and before its comment, and the offset in the line
+/// at which it begins.
 #[tactic(auto, unfolding(crate::specs::SourceLines::statement_text))]
 pub fn statement_of(line: &[u8]) -> (usize, &[u8])
     ensures place { result.0 ≡ statement_place line.now }

@@ -1,4 +1,4 @@
-//! What holds of the definitions, with nothing to run.
+//! Theorems about the definitions; nothing here runs.
 
 ghost use Rattle.std.specs.Prelude.{◌≡◌, ℕ, Bool, List, Some, Err, IsSome};
 ghost use Rattle.word_ops.specs.declared.Profile.{Profile};
@@ -8,9 +8,10 @@ ghost use Rattle.fault_marks.specs.Laws.{IsTokenFlaw};
 ghost use Rattle.fault_marks.specs.SourceLines.{numbered_line};
 ghost use Rattle.fault_marks.specs.Spans.{flaw_span};
 
-/// For each profile, and whether invariants may name the steps that are left or not: where a text
-/// spells no source for what stands in one token of a statement, which is no mnemonic, a wrong
-/// operand or no formula, the line that is told is a line of the text, and it has a mark.
+/// States that faults in a single token get a mark, for each profile, and whether invariants may
+/// name the remaining steps or not. If a text isn't a source because of one token of a statement,
+/// which isn't a mnemonic, is a wrong operand or isn't a formula, then the line reported is a line
+/// of the text, and it has a mark.
 #[tactic(auto, using(crate::proofs::Marked::fault_marked))]
 pub fn laws()
     ensures marked { (p : Profile) (left : Bool) (text : List ℕ) (n : ℕ) (flaw : LineFlaw)

@@ -8,7 +8,7 @@ ghost use Rattle.fault_marks.specs.Inside.Tokens.{punct_class, source_token};
 
 use text_tokens::{Class, Marks, Placed, next_token};
 
-/// A token of one byte.
+/// A token of one byte, a punctuation character.
 #[derive(Clone, Copy, Debug, PartialEq, Eq)]
 pub enum Punct {
     /// `,`.
@@ -37,7 +37,7 @@ impl Marks for Punct {
     }
 }
 
-/// The first token from position `from` on; `None` where only blanks are left.
+/// Returns the first token from position `from` on, or `None` if only blanks are left.
 #[tactic(auto, using(crate::proofs::SameTokens::first_same, crate::proofs::SameTokens::none_same))]
 pub fn token_from(text: &[u8], from: usize) -> Option<Placed<'_, Punct>>
     requires { from ≤ length text.now }

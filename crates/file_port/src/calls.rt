@@ -1,9 +1,9 @@
-//! Which calls of an object in memory are to fail.
+//! Which calls of an object in memory are made to fail.
 
 ghost use Rattle.std.specs.Prelude.{◌≡◌};
 ghost use Rattle.file_port.specs.Calls.{is_failing};
 
-/// Whether the call of this number is in the list.
+/// Returns whether the number of this call is in the list `failing`.
 pub fn is_failing(failing: &[u32], call: u64) -> bool
     ensures { result ≡ is_failing failing.now call }
 {

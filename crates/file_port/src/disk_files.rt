@@ -1,4 +1,4 @@
-//! The files of the system, of whose content nothing is told.
+//! The real files; contracts say nothing of their content.
 
 ghost use Rattle.std.specs.Prelude.{◌≡◌, [], None};
 ghost use Rattle.file_port.specs.Events.{given_of};
@@ -13,16 +13,16 @@ use std::fs::File;
 use std::io::ErrorKind;
 use std::rt;
 
-/// The files of a runtime. Nothing is told of what they hold.
+/// The files of a runtime. Contracts say nothing of what they hold.
 ///
-/// Only a file that isn't found is missing. Want of memory in opening or reading is `Memory`, and
-/// counted nowhere. Any other fault of the system there, as a name that is too long, is a failed
-/// read, and one in creating or writing a failed write. A device that takes nothing of what is left
-/// is at fault.
+/// Only a file that isn't found is missing. Running out of memory while opening or reading is
+/// `Memory`, and isn't counted. Any other error of the system there, such as a name that is too
+/// long, is a failed read; an error while creating or writing is a failed write. A device that
+/// takes none of the remaining bytes counts as failed.
 ///
-/// A write makes the file, or empties it where it is there, and then writes from the front. So where
-/// it fails, or the machine stops in the middle, the file holds its old bytes or a prefix of the new
-/// ones, and at worst none of them. A file that is there keeps its permissions.
+/// A write creates the file, or empties it if it exists, and then writes from its start. So if a
+/// write fails, or the machine stops in the middle, the file holds its old bytes or a prefix of the
+/// new ones, at worst none of them. An existing file keeps its permissions.
 #[derive(Drop)]
 pub struct DiskFiles<R> {
     rt: R,
@@ -32,7 +32,7 @@ pub struct DiskFiles<R> {
 }
 
 impl<R: rt::Files> DiskFiles<R> {
-    /// The files of this runtime, and no call and no fault so far.
+    /// Returns the files of this runtime, with no call and no failure so far.
     pub fn new(rt: R) -> DiskFiles<R>
         ensures state { state_of_disk_files result ≡ record {
           contents = None;

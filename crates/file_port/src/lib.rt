@@ -1,12 +1,12 @@
-//! Files and output as the program meets them: two traits that count their faults.
+//! I/O interface: traits for whole files and output that count their failures.
 //!
-//! `Files` reads and writes whole files by name, `Sink` takes output piece by piece. The layer
-//! above is generic over both. It uses one clause a method, by cases on the answer: `Reads` and
-//! `Writes` of `specs/Files`, `Puts` of `specs/Sink`. The counts, `Rose` and `IsQuiet` stand in
-//! `specs/Counts`. `MemFiles` and `MemSink` tell what they hold and have exact contracts
+//! `Files` reads and writes whole files by name, `Sink` takes output piece by piece. The layers
+//! above are generic over both, and use one clause of each method, by cases on the result: `Reads`
+//! and `Writes` of `specs/Files`, `Puts` of `specs/Sink`. The counts, `Rose` and `IsQuiet` are
+//! defined in `specs/Counts`. The contracts of `MemFiles` and `MemSink` say exactly what they hold
 //! (`specs/MemFiles`, `specs/MemSink`). `DiskFiles` and `StdSink` are the real ones, of whose
-//! content the traits tell nothing. What was asked of any of them, and what it answered, stands in
-//! its log (`specs/Events`), which only proofs read and which takes no memory.
+//! content the traits say nothing. A log records what each of them was asked and what it answered
+//! (`specs/Events`); only proofs read the log, and it takes no memory.
 
 #![tactic(auto)]
 

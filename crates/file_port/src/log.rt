@@ -1,5 +1,5 @@
-//! What was asked of an object of the outside, and what it answered. Only proofs read it: it takes
-//! no memory, and its calls do nothing when they run.
+//! The log of calls of an I/O object, and their results. Only proofs read it: it takes no memory,
+//! and its calls do nothing when they run.
 
 ghost use Rattle.std.specs.Prelude.{◌≡◌, List, [], ◌∷◌, ◌++◌};
 ghost use Rattle.std.specs.Borrow.{ftrue};
@@ -9,21 +9,21 @@ ghost use Rattle.file_port.specs.Stored.{events_code};
 use crate::port::{Got, Put};
 use std::marker::Model;
 
-/// A call of an object of the outside, with its answer.
+/// A call of an I/O object, with its result.
 #[derive(Clone, Copy, Drop)]
 pub enum Asked<'a> {
-    /// A read of the file of the name, of at most so many bytes.
+    /// A read of the file with this name, of at most so many bytes.
     Read(&'a str, u32, &'a Got),
-    /// A write of the bytes to the file of the name.
+    /// A write of the bytes to the file with this name.
     Write(&'a str, &'a [u8], Put),
-    /// A put of the piece.
+    /// A write of the piece to the output.
     Put(&'a [u8], Put),
 }
 
 /// The calls so far, in order.
 #[derive(Drop)]
 pub struct Log {
-    /// What clauses see of it.
+    /// The events of these calls, as clauses see them.
     pub ghost events: { List Event } by { events_code },
 }
 
@@ -34,14 +34,14 @@ impl Model for Log {
 impl Log {
     ghost use Rattle.file_port.specs.Logs.{event_of};
 
-    /// No call so far.
+    /// Returns the log of no call.
     pub fn new() -> Log
         ensures { result.events ≡ [] }
     {
         Log {}
     }
 
-    /// These calls, and then one more.
+    /// Returns the log of these calls, and then one more.
     #[inline(always)]
     pub fn then(&self, _asked: &Asked<'_>) -> Log
         ensures { result.events ≡ self.now.events ++ event_of _asked.now ∷ [] }

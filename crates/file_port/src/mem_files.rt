@@ -1,4 +1,4 @@
-//! Files in memory, with a list of the calls that are to fail.
+//! Files in memory, with a list of the calls that are made to fail.
 
 ghost use Rattle.std.specs.Prelude.{◌≡◌, ◌↔◌, ◌≤◌, ◌<◌, ◌+◌, IfOk, true, false, option_map, string_bytes, [], ◌∷◌, ◌++◌, length, find, reverse};
 ghost use Rattle.std.specs.Str.{bytes_eq};
@@ -15,13 +15,13 @@ use crate::spare::{MAX_BYTES, MAX_NAME, Spare};
 use std::alloc::{AllocError, Global};
 use std::marker::Model;
 
-/// Files in memory, which tell what they hold.
+/// Files in memory, whose contracts say what they hold.
 ///
-/// There is room for so many writes, each with a name of at most 255 bytes and with at most
-/// 4,194,304 bytes. Each write within the room takes up one of these, a failing one too. The calls
-/// of `read` and `write` together are numbered from 0, and those in the list `failing` fail. A
-/// write that is listed leaves the first half of its bytes, rounded down, as the file. One past
-/// the room fails and leaves all files.
+/// There is room for a number of writes, each with a name of at most 255 bytes and with at most
+/// 4,194,304 bytes. Each write within the room takes up one of them, also if it fails. The calls of
+/// `read` and `write` together are numbered from 0, and those in the list `failing` fail. A write
+/// in the list leaves the first half of its bytes, rounded down, as the file. A write past the room
+/// fails and leaves all files unchanged.
 #[derive(Drop)]
 pub struct MemFiles {
     // a log of writes: the last of a name counts
@@ -74,7 +74,7 @@ fn find_file<'a>(files: &'a [(String, Vec<u8>)], name: &str) -> Option<&'a [u8]>
     search_files(files, name)
 }
 
-/// What a read answers that does not fail.
+/// Returns the result of a read that doesn't fail.
 fn copy_file(alloc: Global, file: Option<&[u8]>, max: u32) -> Got
     ensures { IsGiven (given_by max (option_map (λ b. b.now) file.entry)) (given_of result) }
 {
@@ -101,8 +101,10 @@ fn make_spares(alloc: Global, room: u32) -> Result<Vec<Spare>, AllocError>
 }
 
 impl MemFiles {
-    /// The files given, with room for so many writes, of which none was made yet. Where a name
-    /// stands twice the last counts. It is an error where there is no memory for the room.
+    /// Creates files with this content, and room for `room` writes, of which none is made yet. If a
+    /// name occurs twice the last one counts.
+    ///
+    /// Errors: out of memory for the room.
     pub fn new(
         alloc: Global,
         mut files: Vec<(String, Vec<u8>)>,
@@ -132,7 +134,7 @@ impl MemFiles {
         })
     }
 
-    /// The bytes of the file of this name, if there is one.
+    /// Returns the bytes of the file with this name, or None if there is none.
     pub fn get(&self, name: &str) -> Option<&[u8]>
         ensures { option_map (λ b. b.now) result ≡ finmap.get self.now.files name.now }
     {
@@ -141,7 +143,7 @@ impl MemFiles {
 }
 
 impl MemFiles {
-    /// Answers a read, and counts it.
+    /// Returns the result of a read, and counts the read.
     fn answer(&mut self, alloc: Global, name: &str, max: u32) -> Got
         ensures meaning { Reads name.now max
             (state_of_mem_files self.old) (state_of_mem_files self.new) (given_of result) }

@@ -1,4 +1,4 @@
-//! Output in memory, with a list of the calls that are to fail.
+//! Output in memory, with a list of the calls that are made to fail.
 
 ghost use Rattle.std.specs.Prelude.{◌≡◌, ◌≤◌, ◌+◌, IfOk, false, length, []};
 ghost use Rattle.file_port.specs.Inside.Takes.{Takes};
@@ -11,11 +11,11 @@ use crate::port::{Put, Sink};
 use std::alloc::{AllocError, Global};
 use std::marker::Model;
 
-/// Output in memory, which tells its bytes.
+/// Output in memory, whose contracts say which bytes it holds.
 ///
-/// There is room for so many bytes in all. The calls of `put` are numbered from 0, and those in
-/// the list `failing` fail, but for those of an empty piece. A put that is listed adds the first
-/// half of its bytes, rounded down. One past the room fails and adds nothing.
+/// There is room for a number of bytes in all. The calls of `put` are numbered from 0, and those in
+/// the list `failing` fail, unless their piece is empty. A call in the list adds the first half of
+/// its bytes, rounded down. A call past the room fails and adds nothing.
 #[derive(Drop)]
 pub struct MemSink {
     bytes: Vec<u8>,
@@ -47,7 +47,9 @@ impl Model for MemSink {
 }
 
 impl MemSink {
-    /// No output yet, with room for so many bytes. It is an error where there is no memory for them.
+    /// Creates an empty output, with room for `room` bytes.
+    ///
+    /// Errors: out of memory for the room.
     pub fn new(alloc: Global, room: u32, failing: Vec<u32>) -> Result<MemSink, AllocError>
         ensures { IfOk result (λ sink. sink ≡ record {
           bytes = [];
@@ -68,7 +70,7 @@ impl MemSink {
         })
     }
 
-    /// The bytes so far.
+    /// Returns the bytes so far.
     pub fn bytes(&self) -> &[u8]
         ensures { result.now ≡ self.now.bytes }
     {

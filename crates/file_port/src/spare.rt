@@ -1,4 +1,4 @@
-//! Room that is set aside for one write.
+//! Room that is reserved for one write.
 
 ghost use Rattle.std.specs.Prelude.{◌≡◌, ◌≤◌, [], length, string_bytes, vec_capacity};
 ghost use Rattle.std.specs.String.{string_capacity};
@@ -6,13 +6,13 @@ ghost use Rattle.file_port.specs.declared.spare.TheConstants.{MAX_NAME, MAX_BYTE
 
 use std::alloc::{AllocError, Global};
 
-/// The longest name of a file that is written, in bytes.
+/// The maximal length in bytes of the name of a file that is written.
 pub const MAX_NAME: usize = 255;
 
-/// The most bytes that one write may have.
+/// The maximal number of bytes of one write.
 pub const MAX_BYTES: usize = 4_194_304;
 
-/// A name and bytes that are empty, with room for those of one write.
+/// An empty name and empty bytes, with room for those of one write.
 #[derive(Drop)]
 pub struct Spare {
     name: String,
@@ -24,7 +24,9 @@ pub struct Spare {
 }
 
 impl Spare {
-    /// The room for one write.
+    /// Reserves the room for one write.
+    ///
+    /// Errors: out of memory.
     pub fn new(alloc: Global) -> Result<Spare, AllocError> {
         Ok(Spare {
             name: String::with_capacity(alloc, MAX_NAME)?,
@@ -32,7 +34,7 @@ impl Spare {
         })
     }
 
-    /// The name and the bytes, which take no more memory.
+    /// Returns the name and the bytes, without taking more memory.
     pub fn filled(self, name: &str, bytes: &[u8]) -> (String, Vec<u8>)
         requires name { length name.now ≤ MAX_NAME }
         requires bytes { length bytes.now ≤ MAX_BYTES }

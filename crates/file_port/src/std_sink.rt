@@ -1,4 +1,4 @@
-//! A writer as a sink.
+//! A writer, such as standard output, as a sink.
 
 ghost use Rattle.std.specs.Prelude.{◌≡◌, [], None};
 ghost use Rattle.file_port.specs.Inside.Takes.{Takes};
@@ -10,10 +10,10 @@ use crate::port::{Put, Sink};
 use crate::streams::write_through;
 use std::io::Write;
 
-/// A writer, such as standard output. As a sink it tells nothing of its bytes.
+/// A writer, such as standard output. As a sink it says nothing of its bytes.
 ///
-/// A piece is written and flushed. A device that takes nothing of what is left of it is at fault,
-/// and so is one whose flush fails.
+/// Each piece is written and flushed. A device that takes none of the remaining bytes counts as
+/// failed, and so does one whose flush fails.
 #[derive(Drop)]
 pub struct StdSink<W> {
     out: W,
@@ -22,7 +22,7 @@ pub struct StdSink<W> {
 }
 
 impl<W: Write> StdSink<W> {
-    /// The writer, and no put and no fault so far.
+    /// Returns the writer as a sink, with no call and no failure so far.
     pub fn new(out: W) -> StdSink<W>
         ensures writer { writer_of result ≡ out }
         ensures state { state_of_std_sink result ≡ record {
@@ -40,7 +40,7 @@ impl<W: Write> StdSink<W> {
 }
 
 impl<W: Write> StdSink<W> {
-    /// Takes the piece, or a part of it.
+    /// Writes the piece, or a part of it.
     fn take(&mut self, bytes: &[u8]) -> Put
         ensures meaning { Takes bytes.now
             (state_of_std_sink self.old) (state_of_std_sink self.new) result }

@@ -1,4 +1,4 @@
-//! Reads to the end and whole writes, over any reader and writer.
+//! Reads to the end and complete writes, over any reader and writer.
 
 ghost use Rattle.std.specs.Prelude.{◌≡◌, ◌≢◌, ℕ, List, [], IfSome};
 ghost use Rattle.std.specs.IoError.{error_kind};
@@ -12,10 +12,11 @@ use crate::port::{Got, Put};
 use std::alloc::Global;
 use std::io::{Error, ErrorKind, Read, Write};
 
-/// The most bytes that one call of the system reads.
+/// The maximal number of bytes that one system call reads.
 const PIECE: usize = 4096;
 
-/// What a read answers to a fault of the system: `Memory` to want of memory, else `Failed`.
+/// Returns the result of a read for an error of the system: `Memory` if it is out of memory, else
+/// `Failed`.
 pub fn answer_to(error: Error) -> Got
     ensures within { (max : ℕ) → IsWithin max (given_of result) }
     ensures right { (max : ℕ) (bytes : List ℕ) → MayRead max bytes result }
@@ -28,7 +29,7 @@ pub fn answer_to(error: Error) -> Got
     }
 }
 
-/// Reads to the end, to the first fault or to one byte more than `max`.
+/// Reads to the end, to the first error or until one byte more than `max` is read.
 pub fn read_to_end<S: Read>(source: &mut S, alloc: Global, max: u32) -> Got
     ensures within { IsWithin max (given_of result) }
     ensures right { IfSome (S.remaining source.old) (λ bytes. MayRead max bytes result) }
@@ -51,7 +52,8 @@ pub fn read_to_end<S: Read>(source: &mut S, alloc: Global, max: u32) -> Got
     Got::TooLong
 }
 
-/// Writes all of the bytes, or stops at the first fault. A writer that takes none of them is at fault.
+/// Writes all of the bytes, or stops at the first error. A writer that takes none of them counts as
+/// failed.
 pub fn write_whole<W: Write>(out: &mut W, bytes: &[u8]) -> Put
     ensures empty { bytes.now ≡ [] → result ≡ Put.Done }
     ensures taken { TakesUp (W.contents out.old) (W.contents out.new) bytes.now result }
@@ -66,7 +68,7 @@ pub fn write_whole<W: Write>(out: &mut W, bytes: &[u8]) -> Put
     Put::Done
 }
 
-/// Writes all of the bytes and flushes them, or stops at the first fault.
+/// Writes all of the bytes and flushes them, or stops at the first error.
 pub fn write_through<W: Write>(out: &mut W, bytes: &[u8]) -> Put
     ensures empty { bytes.now ≡ [] → result ≡ Put.Done }
     ensures taken { TakesUp (W.contents out.old) (W.contents out.new) bytes.now result }

@@ -1,4 +1,4 @@
-//! What holds of the definitions, with nothing to run.
+//! Theorems about the definitions; nothing here runs.
 
 ghost use Rattle.std.specs.Prelude.{◌≡◌, ◌≢◌, ℕ, ◌-◌, ◌^◌, ◌<◌, List, ◌++◌, Some};
 ghost use Rattle.std.specs.FinMap.{get, insert};
@@ -7,8 +7,9 @@ ghost use Rattle.file_port.specs.Files.{FileMap};
 ghost use Rattle.file_port.specs.Sink.{SinkState, PutFails, Puts, with_piece};
 ghost use Rattle.file_port.specs.declared.port.Put.{Put};
 
-/// A file that is set changes no other, puts one after another are the put of the whole, and a
-/// count rises until it is at its top.
+/// States the theorems about files, output and counts. Setting a file changes no other file (`set`,
+/// `others`). Two writes to the output, one after the other, equal one write of both pieces
+/// (`joined`, `part`). A count of failures rises until it is at its top (`rises`, `top`, `quiet`).
 pub fn laws()
     ensures set { (files : FileMap) (name bytes : List ℕ) → get (insert files name bytes) name
         ≡ Some bytes }

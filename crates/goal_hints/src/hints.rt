@@ -1,11 +1,11 @@
-//! What is missing of a goal under formulas that are known.
+//! Finding what is missing to prove a goal under hypotheses.
 //!
-//! The formulas stand over the same variables as the goal: none of them is proved by a binder
-//! between, as in the class's search. The variables that stand for their proofs are numbers alone,
-//! since a hint shows formulas and words and no proof.
+//! The hypotheses are formulas over the goal's own variables: unlike in the class's search, no
+//! binder between proves one of them. The variables for their proofs are numbers alone, since a
+//! hint shows formulas and words and no proof.
 //!
-//! Errors: want of memory, and `Results` where more results than the search may keep would be kept;
-//! each id keeps its tree.
+//! Errors: out of memory, and `Results` if the search would cache more results than it may; every
+//! id keeps its tree.
 
 ghost use Rattle.std.specs.Prelude.{◌≡◌, List, [], map, IfOk, OnOk};
 ghost use Rattle.term_table.specs.Tree.{Var};
@@ -33,25 +33,25 @@ use hyp_proofs::{Hypotheses, add_split};
 use term_table::{Id, Node, Table};
 use word_ops::Rel;
 
-/// What is said of a formula that isn't easy.
+/// The hint about a formula that isn't easy.
 #[derive(Drop)]
 pub enum Hint {
-    /// Nothing more.
+    /// No further hint.
     Plain,
-    /// Of `(ult a b)` or `(ule a b)` under hypotheses: the least word that `a` is found to be at
-    /// most, and the greatest that `b` is found to be at least.
+    /// For `(ult a b)` or `(ule a b)` under hypotheses: the least upper bound that the search finds
+    /// for `a`, and the greatest lower bound that it finds for `b`.
     Bounds(u64, u64),
-    /// Of a right to load or store: the hypotheses, in order, that give such rights to addresses
-    /// with the same summands.
+    /// For a right to load or store: the hypotheses, in order, that give such rights to addresses
+    /// with equal summands.
     Rights(Vec<Id>),
 }
 
-/// What is missing of a goal.
+/// What is missing to prove a goal.
 #[derive(Drop)]
 pub struct Missing {
-    /// The first formula that the goal conjoins which isn't easy; the last where all others are.
+    /// The first conjunct of the goal that isn't easy; the last conjunct if all others are.
     pub part: Id,
-    /// What is said of it.
+    /// The hint about that conjunct.
     pub hint: Hint,
 }
 
@@ -89,7 +89,7 @@ fn hypotheses_of(table: &mut Table, known: &[Id]) -> Result<Hypotheses, Exhauste
     Ok(hyps)
 }
 
-/// The first of the formulas that `goal` conjoins which isn't easy; the last where all others are.
+/// Returns the first conjunct of `goal` that isn't easy; the last if all others are.
 #[tactic(auto, using(goal_proofs::proofs::WordRows::rows))]
 fn missing_part(
     table: &mut Table,
@@ -239,12 +239,12 @@ fn hint_of(
     }
 }
 
-/// What is missing of `goal` where the formulas of `known` hold: the first formula that it conjoins
-/// which isn't easy, and a hint. `known` and `goal` are of a part over the machine's variables,
-/// with `PART_BINDERS` binders outside. `counted` says whether steps are counted.
+/// Returns what is missing to prove `goal` under the hypotheses `known`: the first conjunct that
+/// isn't easy, and a hint. `known` and `goal` are from a part over the machine's variables, with
+/// `PART_BINDERS` binders outside. `counted` says whether steps are counted.
 ///
-/// Errors: want of memory, which 2^32 known formulas are too, and `Results` where `search` would
-/// keep more than it may; each id keeps its tree.
+/// Errors: out of memory, also if there are 2^32 hypotheses, and `Results` if `search` would cache
+/// more than it may; every id keeps its tree.
 #[tactic(auto, using(goal_proofs::proofs::Kept::rows))]
 pub fn missing_of(
     table: &mut Table,

@@ -1,11 +1,12 @@
-//! What is missing of a goal that isn't easy.
+//! Finds what is missing to prove a goal: its first unproved conjunct and a hint.
 //!
-//! The layer above uses that `missing_of` answers, for whatever formulas the ids stand for, the
-//! first of the formulas that the goal conjoins which isn't easy under what is known, and of that
-//! formula a hint (`specs/Hints`): the bounds of both sides of a comparison, or the hypotheses that
-//! give rights to addresses with the same summands. Both go by the class of easy conditions
-//! (`prover_class`), and `hint_laws` says what they mean. Source: Necula, Proof-Carrying Code,
-//! POPL 1997 (the rules); the search and the hints are this project's own.
+//! `missing_of` returns, for whatever formulas the ids encode, the first conjunct of the goal that
+//! isn't easy under the hypotheses, and a hint about it (`specs/Hints`). The hint is the bounds of
+//! both sides of a comparison, or the hypotheses that give rights to addresses with equal summands.
+//! Both come from the class of easy conditions (`prover_class`); `hint_laws` says what they mean.
+//!
+//! Source: Necula, Proof-Carrying Code, POPL 1997 (the rules); the search and the hints are this
+//! project's own.
 #![tactic(auto)]
 
 mod hints;

@@ -1,7 +1,7 @@
-//! Hypotheses that give rights to addresses with the same summands.
+//! Hypotheses that give rights to addresses with equal summands.
 //!
-//! Errors: want of memory alone, which more results than the search may keep are too; each id keeps
-//! its tree.
+//! Errors: out of memory, or the search would cache more results than it may; every id keeps its
+//! tree.
 
 ghost use Rattle.std.specs.Prelude.{◌≡◌, ◌<◌, length, get_or, map, IfOk, OnOk};
 ghost use Rattle.term_table.specs.Table.{IsKnown, AllKnown, tree_at, Extends};
@@ -20,7 +20,7 @@ use goal_proofs::Search;
 use hereditary_subst::Exhausted;
 use term_table::{Id, Table};
 
-/// As so many steps a hypothesis counts that is tried: it has two normal forms looked up.
+/// How many steps it counts to try one hypothesis, which looks up two normal forms.
 const STEPS_A_TRY: u64 = 4;
 
 /// Whether a quantified hypothesis over `body` is near.
@@ -57,7 +57,7 @@ fn is_body_near(
     }
 }
 
-/// Whether the hypothesis gives rights that are asked for to addresses with the same summands.
+/// Checks whether the hypothesis gives the right asked for to addresses with equal summands.
 #[tactic(auto, using(crate::proofs::Growing::rows))]
 fn is_near(
     table: &mut Table,
@@ -111,8 +111,8 @@ fn form_at(table: &Table, hyps: &[Hypothesis], i: usize) -> Hypothesis
     hyps[i]
 }
 
-/// The formulas of the hypotheses that give rights that are asked for to addresses with the same
-/// summands, in order.
+/// Returns the formulas of those hypotheses, in order, that give the right asked for to addresses
+/// with equal summands.
 #[tactic(auto, using(crate::proofs::Growing::rows))]
 pub(crate) fn near(
     table: &mut Table,

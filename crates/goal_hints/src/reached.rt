@@ -1,8 +1,8 @@
-//! Rights that are reached through conjunctions, at addresses with the same summands.
+//! Rights that are reached through conjunctions, at addresses with equal summands.
 //!
-//! Whether one is reached in a formula is kept by its id, so a shared formula is gone through once.
-//! Errors: want of memory alone, which more results than the search may keep are too; each id keeps
-//! its tree.
+//! Whether a formula reaches one is cached by its id, so a shared formula is gone through once.
+//! Errors: out of memory, or the search would cache more results than it may; every id keeps its
+//! tree.
 
 ghost use Rattle.std.specs.Prelude.{◌≡◌, ◌<◌, Some, None, if◌then◌else◌, IfOk, OnOk};
 ghost use Rattle.term_table.specs.Table.{IsKnown, Extends};
@@ -26,7 +26,7 @@ pub(crate) struct Asked {
     pub(crate) address: Id,
 }
 
-/// Whether such a right is reached in a formula, where `instance` by an instance.
+/// The cache key: whether such a right is reached in a formula; by an instance if `instance`.
 #[derive(Clone, Copy, PartialEq, Eq, PartialOrd, Ord)]
 pub(crate) struct Reach {
     store: bool,
@@ -49,7 +49,7 @@ impl Question for Reach {
     ghost lasts = { λ _ t u q b e _ h. reach-lasts t u q b e h };
 }
 
-/// Whether the access that is given is the one that is asked for.
+/// Returns whether the access that is given is the one that is asked for.
 pub(crate) fn is_asked(store: bool, given: Access) -> bool
     ensures { (z : Exp) → right_address (access_at store) (right_form given z)
         ≡ if result then Some z else None }
@@ -60,7 +60,7 @@ pub(crate) fn is_asked(store: bool, given: Access) -> bool
     }
 }
 
-/// Whether a right that is asked for is reached in the formula.
+/// Checks whether a right that is asked for is reached in the formula.
 #[cycle(reaching)]
 #[tactic(auto, using(crate::proofs::Growing::rows))]
 pub(crate) fn is_reached(
@@ -94,7 +94,8 @@ pub(crate) fn is_reached(
     Ok(reached)
 }
 
-/// The same of a formula of which nothing is kept.
+/// Checks whether a right that is asked for is reached in the formula, for which no result is
+/// cached.
 #[cycle(reaching)]
 #[tactic(auto, using(crate::proofs::Growing::rows))]
 fn is_reached_in_parts(
@@ -136,7 +137,7 @@ fn is_reached_in_parts(
     }
 }
 
-/// The same of a conjunction.
+/// Checks whether a right that is asked for is reached in the conjunction of `a` and `b`.
 #[cycle(reaching)]
 #[tactic(auto, using(crate::proofs::Growing::rows))]
 fn is_reached_in_both(

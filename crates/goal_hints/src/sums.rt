@@ -1,7 +1,7 @@
-//! Whether addresses have the same summands.
+//! Whether two addresses have equal summands.
 //!
-//! Errors: want of memory alone, which more results than the search may keep are too; each id keeps
-//! its tree.
+//! Errors: out of memory, or the search would cache more results than it may; every id keeps its
+//! tree.
 
 ghost use Rattle.std.specs.Prelude.{◌≡◌, IfOk, IfSome, OnOk};
 ghost use Rattle.term_table.specs.Table.{IsKnown, tree_at, Extends};
@@ -21,7 +21,8 @@ use hereditary_subst::Exhausted;
 use sum_proofs::{rest_of, summand_count};
 use term_table::{Id, Node, Table};
 
-/// What is left of the sum `a` without the sum `z`: none where a summand of `z` is missing in `a`.
+/// Returns what is left of the sum `a` without the sum `z`: None if a summand of `z` is missing in
+/// `a`.
 #[tactic(auto, using(goal_proofs::proofs::Kept::rows))]
 fn sum_rest(table: &mut Table, search: &mut Search, a: Id, z: Id) -> Result<Option<Id>, Exhausted>
     requires a { IsKnown table.old a }
@@ -72,7 +73,7 @@ fn at_zero(table: &mut Table, search: &mut Search, z: Id, zero: Id) -> Result<Id
     put_word_exp(table, &mut search.memo, &mut search.puts, z, zero)
 }
 
-/// Whether the summands of `z`, where 0 is put for variable 0, are among those of `a`.
+/// Checks whether the summands of `z`, with 0 for variable 0, are among the summands of `a`.
 #[tactic(auto, using(goal_proofs::proofs::Kept::rows))]
 fn has_instance(table: &mut Table, search: &mut Search, a: Id, z: Id) -> Result<bool, Exhausted>
     requires a { IsKnown table.old a }
@@ -89,8 +90,8 @@ fn has_instance(table: &mut Table, search: &mut Search, a: Id, z: Id) -> Result<
     Ok(rest.is_some())
 }
 
-/// Whether the address `z` has the summands of `a`, or where `instance` an instance of it has some
-/// of them.
+/// Checks whether the address `z` has the summands of `a`; if `instance`, whether an instance of it
+/// has some of them.
 #[tactic(auto, using(goal_proofs::proofs::Kept::rows))]
 pub(crate) fn is_like(
     table: &mut Table,

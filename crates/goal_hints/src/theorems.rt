@@ -1,4 +1,4 @@
-//! What a missing part and its hint mean, with nothing to run.
+//! Theorems about missing conjuncts and their hints; nothing here runs.
 
 ghost use Rattle.std.specs.Prelude.{◌≡◌, ◌≤◌, ◌<◌, Bool, false};
 ghost use Rattle.word_ops.specs.declared.Rel.TheVariants.{Ult, Ule};
@@ -11,9 +11,10 @@ ghost use Rattle.goal_hints.specs.Hints.{missing_part};
 
 use goal_proofs::round_laws;
 
-/// The missing part of a goal that isn't easy isn't easy. Where `(ult a b)` isn't easy, the bound
-/// that is found of `a` isn't below the one that is found of `b`, and where `(ule a b)` isn't, it is
-/// above it.
+/// States what a hint means. The missing conjunct of a goal that isn't easy isn't easy itself
+/// (`missing`). If `(ult a b)` isn't easy, the upper bound found for `a` isn't below the lower
+/// bound found for `b` (`bounds`). If `(ule a b)` isn't easy, the upper bound found for `a` is
+/// above the lower bound found for `b` (`at_most`).
 pub fn hint_laws()
     ensures missing { (counted : Bool) (Γ : Hyps) (A : Form)
         → is_easy counted PART_BINDERS Γ A ≡ false

@@ -1,6 +1,6 @@
-//! The trees that a walk has left, as a table of their own.
+//! Copies the trees that a walk has left into a table of their own.
 //!
-//! Errors: want of memory alone.
+//! Errors: out of memory.
 
 ghost use Rattle.std.specs.Prelude.{◌≡◌, ◌++◌, ◌∷◌, [], true, false, IfOk, OnOk};
 ghost use Rattle.term_table.specs.Table.{IsKnown, PartsKnown, tree_at, node_tree};
@@ -14,7 +14,7 @@ use proof_container::Walk;
 use std::alloc::{AllocError, Global};
 use term_table::{Id, Node, Places, Table};
 
-/// The number that the walk gave to a tree that it has left.
+/// Returns the number that the walk gave to a tree that it has left.
 pub(crate) fn number(table: &Table, walk: &Walk, id: Id) -> u64
     requires left { IsLeft table.now (left_trees table.now walk.now) walk.now }
     requires known { IsKnown table.now id }
@@ -92,7 +92,7 @@ fn copy_tree(table: &Table, walk: &Walk, copy: &mut Table, id: Id) -> Result<(),
     Ok(())
 }
 
-/// The trees that the walk has left as a table, in the order of the walk.
+/// Returns a table of the trees that the walk has left, in the order of the walk.
 pub(crate) fn copy_of(alloc: Global, table: &Table, walk: &Walk) -> Result<Table, AllocError>
     requires left { IsLeft table.now (left_trees table.now walk.now) walk.now }
     requires order { ArePostorder [] (left_trees table.now walk.now) }

@@ -1,4 +1,4 @@
-//! Why there is no listing.
+//! Why goals aren't listed.
 
 ghost use Rattle.std.specs.Prelude.{◌≡◌};
 
@@ -6,16 +6,16 @@ use hereditary_subst::Exhausted;
 use pcc_gate::Refusal;
 use thiserror::Error;
 
-/// Why the goals of bytes aren't listed.
+/// Why the goals of a container's bytes aren't listed.
 #[derive(Clone, Copy, Debug, PartialEq, Eq, Error)]
 pub enum GoalsFault {
-    /// A clause before the proof fails.
+    /// A check before the proof fails.
     #[error("refused: {0}")]
     Refused(Refusal),
-    /// There was no memory; that says nothing of the bytes.
+    /// There was no memory; this says nothing about the bytes.
     #[error("out of memory")]
     Memory,
-    /// More results would have been kept than the limits allow; that says nothing either.
-    #[error("too many results")]
+    /// The results cached would be more than the limits; this says nothing about the bytes.
+    #[error("more results would be cached than the limit allows")]
     Results,
 }

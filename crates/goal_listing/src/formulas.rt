@@ -1,6 +1,6 @@
-//! Formulas that stand as terms, as text.
+//! Formulas, given as terms, as text.
 //!
-//! Errors: want of memory alone; each id keeps its tree.
+//! Errors: out of memory; every id keeps its tree.
 
 ghost use Rattle.std.specs.Prelude.{◌≡◌, ◌≤◌, IfOk, IfSome, nat_le};
 ghost use Rattle.std.specs.Option.{option_map};
@@ -18,7 +18,7 @@ use lf_signature::{WordSignature, typing_laws};
 use std::alloc::{AllocError, Global};
 use term_table::{Id, Node, Table};
 
-/// What is left of `budget` behind the nodes of the trees of `a` and `b`.
+/// Returns what is left of `budget` after the nodes of the trees of `a` and `b`.
 #[cycle(counting)]
 fn rest_of_both(table: &Table, a: Id, b: Id, budget: u32) -> Option<u32>
     requires a { IsKnown table.now a }
@@ -33,7 +33,7 @@ fn rest_of_both(table: &Table, a: Id, b: Id, budget: u32) -> Option<u32>
     }
 }
 
-/// What is left of `budget`, which isn't 0, behind a node and its parts.
+/// Returns what is left of `budget`, which isn't 0, after a node and its parts.
 #[cycle(counting)]
 fn rest_of_node(table: &Table, node: Node, budget: u32) -> Option<u32>
     requires parts { PartsKnown table.now node }
@@ -50,8 +50,8 @@ fn rest_of_node(table: &Table, node: Node, budget: u32) -> Option<u32>
     }
 }
 
-/// What is left of `budget` behind the nodes of the tree of `id`: None where it isn't enough. It
-/// looks at no more nodes than that.
+/// Returns what is left of `budget` after the nodes of the tree of `id`: None if it isn't enough.
+/// It looks at no more nodes than that.
 #[cycle(counting)]
 #[tactic(auto, using(crate::proofs::Nodes::none_left))]
 fn rest_of(table: &Table, id: Id, budget: u32) -> Option<u32>
@@ -74,7 +74,8 @@ fn is_small(table: &Table, id: Id) -> bool
     rest_of(table, id, MAX_SHOWN).is_some()
 }
 
-/// The formula that the term encodes over the variables of code with that bound, where it is one.
+/// Returns the formula that the term encodes over the variables of code with that step bound, if it
+/// is one.
 fn formula_in(table: &mut Table, bound: Option<u32>, id: Id) -> Result<Option<Form>, AllocError>
     requires { IsKnown table.old id }
     ensures exact { IfOk result
@@ -88,7 +89,7 @@ fn formula_in(table: &mut Table, bound: Option<u32>, id: Id) -> Result<Option<Fo
     }
 }
 
-/// The formula's text, where that has at most `MAX_SHOWN` bytes.
+/// Returns the formula's text if it has at most `MAX_SHOWN` bytes.
 fn text_within(alloc: Global, formula: Option<Form>) -> Result<Option<Vec<u8>>, AllocError>
     ensures { IfOk result
         (λ o. option_map (λ v. v.items) o ≡ text_within (option_map form_view formula)) }
@@ -104,8 +105,8 @@ fn text_within(alloc: Global, formula: Option<Form>) -> Result<Option<Vec<u8>>, 
     }
 }
 
-/// The text of the formula that the term encodes, where the term has at most `MAX_SHOWN` nodes and
-/// the text at most so many bytes.
+/// Returns the text of the formula that the term encodes, if the term has at most `MAX_SHOWN` nodes
+/// and the text at most so many bytes.
 #[tactic(auto, unfolding(crate::specs::Formulas::short_text))]
 pub(crate) fn short_text(
     table: &mut Table,

@@ -1,7 +1,7 @@
-//! The hint behind a goal that isn't easy.
+//! The hint after a goal that isn't easy.
 //!
-//! Errors: want of memory, and `Results` where the search would keep more than it may; each id
-//! keeps its tree.
+//! Errors: out of memory, and `Results` if the search would cache more than it may; every id keeps
+//! its tree.
 
 ghost use Rattle.std.specs.Prelude.{◌≡◌, ◌<◌, ◌∷◌, [], ℕ, Option, is_some, codes, map, length};
 ghost use Rattle.std.specs.Prelude.{get_or, IfOk, OnOk};
@@ -59,7 +59,7 @@ fn id_at(table: &Table, ids: &[Id], index: usize) -> Id
     ids[index]
 }
 
-/// The lines of formulas that give rights to addresses with the same summands.
+/// Adds a line for each formula that gives rights to addresses with equal summands.
 fn push_like(
     table: &mut Table,
     bound: Option<u32>,
@@ -82,7 +82,8 @@ fn push_like(
     Ok(())
 }
 
-/// The same, or that there is none.
+/// Adds a line for each formula that gives rights to addresses with equal summands, or a line that
+/// there is none.
 fn push_rights(
     table: &mut Table,
     bound: Option<u32>,
@@ -146,7 +147,7 @@ fn push_said(
     }
 }
 
-/// The hint of a goal where these are known.
+/// Adds the lines of the hint for a goal under the hypotheses `known`.
 #[tactic(auto, using(goal_proofs::proofs::Kept::rows))]
 pub(crate) fn push_hint(
     table: &mut Table,

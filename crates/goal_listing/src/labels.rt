@@ -1,6 +1,6 @@
-//! What stands before formulas in lines, and the last line.
+//! What lines print before a formula, and the last line.
 //!
-//! Errors: want of memory alone.
+//! Errors: out of memory.
 
 ghost use Rattle.std.specs.Prelude.{◌≡◌, ◌++◌, IfOk, OnOk, decimal};
 ghost use Rattle.goal_listing.specs.Lines.{numbered, part_title, why_text, mark_text};
@@ -18,7 +18,7 @@ pub(crate) fn push_number(out: &mut Vec<u8>, n: u64) -> Result<(), AllocError>
     out.extend_from_slice(buffer.format(n).as_bytes())
 }
 
-/// A word and the number behind it.
+/// Appends a word and the number after it.
 fn push_numbered(out: &mut Vec<u8>, word: &str, n: u64) -> Result<(), AllocError>
     ensures { OnOk result (out.new.items ≡ out.old.items ++ numbered word.now n) }
 {
@@ -91,7 +91,7 @@ fn push_goal_label(
     Ok(())
 }
 
-/// The line of what is known behind a branch, up to its formula.
+/// Appends the line of the hypothesis that a branch adds, up to its formula.
 fn push_known_label(out: &mut Vec<u8>, number: u64, at: u32, taken: bool) -> Result<(), AllocError>
     ensures { OnOk result (out.new.items ≡ out.old.items ++ known_label number at taken) }
 {
@@ -100,7 +100,7 @@ fn push_known_label(out: &mut Vec<u8>, number: u64, at: u32, taken: bool) -> Res
     push_taken(out, taken)
 }
 
-/// The title of the part of a number.
+/// Returns the title of a part, from its number and the index where it begins.
 pub(crate) fn title_label(alloc: Global, number: usize, at: u32) -> Result<Vec<u8>, AllocError>
     ensures { IfOk result (λ v. v.items ≡ part_title number at) }
 {
@@ -109,7 +109,7 @@ pub(crate) fn title_label(alloc: Global, number: usize, at: u32) -> Result<Vec<u
     Ok(label)
 }
 
-/// A text as a label.
+/// Returns a text as a label.
 pub(crate) fn label_of(alloc: Global, text: &str) -> Result<Vec<u8>, AllocError>
     ensures { IfOk result (λ v. v.items ≡ text.now) }
 {
@@ -118,7 +118,7 @@ pub(crate) fn label_of(alloc: Global, text: &str) -> Result<Vec<u8>, AllocError>
     Ok(label)
 }
 
-/// What is known of both sides of a comparison.
+/// Returns the label with the bounds of both sides of a comparison.
 pub(crate) fn bounds_label(alloc: Global, upper: u64, lower: u64) -> Result<Vec<u8>, AllocError>
     ensures { IfOk result (λ v. v.items ≡ bounds_label upper lower) }
 {
@@ -128,7 +128,7 @@ pub(crate) fn bounds_label(alloc: Global, upper: u64, lower: u64) -> Result<Vec<
     Ok(label)
 }
 
-/// The line of a goal up to its formula.
+/// Returns the line of a goal up to its formula.
 pub(crate) fn goal_label(
     alloc: Global,
     at: u32,
@@ -143,7 +143,7 @@ pub(crate) fn goal_label(
     Ok(label)
 }
 
-/// The line of what is known behind a branch, up to its formula.
+/// Returns the line of the hypothesis that a branch adds, up to its formula.
 pub(crate) fn known_label(
     alloc: Global,
     number: u64,
@@ -157,7 +157,7 @@ pub(crate) fn known_label(
     Ok(label)
 }
 
-/// The last line.
+/// Appends the last line.
 pub(crate) fn push_last(out: &mut Vec<u8>, hard: Option<usize>) -> Result<(), AllocError>
     ensures { OnOk result (out.new.items ≡ out.old.items ++ last_line hard) }
 {

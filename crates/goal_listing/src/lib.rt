@@ -1,13 +1,12 @@
-//! The goals of a verification condition as text.
+//! Prints the goals of a container's verification condition as text, with hypotheses and hints.
 //!
-//! The layer above uses that `list_goals` answers, for a container's bytes under a policy, the
-//! listing of the goals of its condition (`goals_of_bytes` in `specs/Listing`), each with what is
-//! known where it is asked and whether the class of easy conditions proves it, exactly where the
-//! gate's clauses before the proof hold. Its lines stand in `specs/Lines`, what is said of the
-//! first goal of a part that isn't easy in `specs/Hints`, how a formula is shown in
-//! `specs/Formulas`, the text of lines with the entries that they name in `specs/Texts`, and what
-//! the call answers in `specs/Answers`. The last line names the part that a proof fails at
-//! (`laws`). The text is this project's own.
+//! `list_goals` returns, for a container's bytes under a policy, the listing of the goals of its
+//! condition (`goals_of_bytes` in `specs/Listing`), exactly if the gate's checks before the proof
+//! pass. Each goal comes with the hypotheses at its place and whether the class of easy conditions
+//! proves it. `specs/Lines` defines the lines, `specs/Hints` the hint after the first goal of a
+//! part that isn't easy, `specs/Formulas` how a formula is shown, `specs/Texts` the text of lines
+//! with the entries that they name, and `specs/Answers` the call's result. The last line names the
+//! part at which a proof fails (`laws`). The text is this project's own.
 #![tactic(auto)]
 
 mod copies;

@@ -1,4 +1,5 @@
-//! The limit of what is shown.
+//! The limit on what is shown.
 
-/// The most bytes of a formula that is shown as its text, and the most nodes of its term.
+/// The maximal length in bytes of a formula that is shown as text, and the maximal number of nodes
+/// of its term.
 pub const MAX_SHOWN: u32 = 2_040;

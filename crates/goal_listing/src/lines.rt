@@ -1,6 +1,6 @@
-//! Lines as they are kept until all are there.
+//! Lines as they are stored until all are there.
 //!
-//! Errors: want of memory alone; each id keeps its tree.
+//! Errors: out of memory; every id keeps its tree.
 
 ghost use Rattle.std.specs.Prelude.{◌≡◌, ◌∷◌, [], ℕ, Option, IfOk, OnOk};
 ghost use Rattle.term_table.specs.Table.{IsKnown, tree_at, Extends};
@@ -19,7 +19,7 @@ pub(crate) struct ShownLine {
     pub(crate) long: Option<Id>,
 }
 
-/// The line of a label and the formula behind it.
+/// Returns the line of a label and the formula after it.
 fn shown_line(
     table: &mut Table,
     bound: Option<u32>,
@@ -45,7 +45,7 @@ fn shown_line(
     }
 }
 
-/// Adds a line of words alone.
+/// Adds a line of text alone.
 pub(crate) fn push_words(
     table: &Table,
     lines: &mut Vec<ShownLine>,

@@ -1,4 +1,4 @@
-//! The listing of the goals of a container's condition.
+//! Listing the goals of a container's verification condition.
 
 ghost use Rattle.std.specs.Prelude.{◌≡◌, ◌≤◌, None, IfOk, All, List, map, length};
 ghost use Rattle.alpha_cfg.specs.Cuts.{AreFlags, unfolded_of};
@@ -101,22 +101,22 @@ fn answered(policy: &Policy, bytes: &[u8], passed: Passed<'_>) -> Result<Vec<u8>
     }
 }
 
-/// The goals of the verification condition of the container in `bytes` under `policy`, as text,
-/// where the gate's clauses before the proof hold (`pcc_gate::front`): for each part of the
-/// condition its number and the index where it begins, and for each goal the index that asks for
-/// it and why, what is known there, and whether the class of easy conditions proves it, by itself
-/// or as what it stands in. The first goal of a part that isn't easy is followed by what is missing
-/// (`goal_hints::missing_of`). The last line names the first part with a goal that isn't easy,
-/// which is the one that `bounds_prover::prove` names.
+/// Lists the goals of the verification condition of the container in `bytes` under `policy`, as
+/// text, if the gate's checks before the proof pass (`pcc_gate::front`). The listing has each part
+/// of the condition with its number and the index where it begins. It has each goal with the index
+/// that asks for it and why, the hypotheses there, and whether the class of easy conditions proves
+/// it, by itself or because what it is part of is. After the first goal of a part that isn't easy
+/// it says what is missing (`goal_hints::missing_of`). The last line names the first part with a
+/// goal that isn't easy, which is the part that `bounds_prover::prove` names.
 ///
-/// A formula whose term has more than `MAX_SHOWN` nodes, or whose text more bytes than that, is
-/// shown by the name of its entry, as `e41`; behind the parts stand the entries that such formulas
-/// are made of, a line each and parts first, as `e41 = and e3 e40`. The time goes by the limit and
-/// by the entries, and not by the size of a tree.
+/// If a formula's term has more than `MAX_SHOWN` nodes, or its text more bytes than that, the
+/// listing shows the name of its entry, as `e41`. After the parts come the entries that such
+/// formulas are made of, a line each and parts first, as `e41 = and e3 e40`. The time depends on
+/// the limit and on the number of entries, not on the size of a tree.
 ///
-/// Errors: `Refused` names the first of those clauses that fails; `Memory` and `Results` say
-/// nothing of `bytes`: there was no memory, or the results that the search keeps and the terms that
-/// it makes were more than `condition_prover::MOST_SEARCHED`.
+/// Errors: `Refused` names the first of those checks that fails. `Memory` and `Results` say nothing
+/// about `bytes`: there was no memory, or the results that the search caches and the terms that it
+/// makes were more than `condition_prover::MOST_SEARCHED`.
 pub fn list_goals(alloc: Global, policy: &Policy, bytes: &[u8]) -> Result<Vec<u8>, GoalsFault>
     ensures exact { IsGoalsAnswer policy.now bytes.now result }
 {

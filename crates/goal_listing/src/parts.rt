@@ -1,7 +1,7 @@
 //! The lines of the parts of a condition.
 //!
-//! Errors: want of memory, and `Results` where the search would keep more than it may; each id
-//! keeps its tree.
+//! Errors: out of memory, and `Results` if the search would cache more than it may; every id keeps
+//! its tree.
 
 ghost use Rattle.std.specs.Prelude.{◌≡◌, ◌≤◌, IfOk, OnOk, All, drop, length, is_some};
 ghost use Rattle.std.specs.Prelude.{if◌then◌else◌};
@@ -91,15 +91,15 @@ fn push_part(
     Ok(all_true(marks.as_slice()))
 }
 
-/// The number, where its part isn't easy, else that of a later part.
+/// Returns the number if its part isn't easy, else the number of a later part.
 fn first_of(easy: bool, number: usize, later: Option<usize>) -> Option<usize>
     ensures { result ≡ (if easy then later else Some number) }
 {
     if easy { later } else { Some(number) }
 }
 
-/// The lines of the parts from place `from` on, which is the number of the first of them; and the
-/// number of the first with a goal that isn't easy.
+/// Adds the lines of the parts from index `from` on, which is the number of the first of them, and
+/// returns the number of the first part with a goal that isn't easy.
 pub(crate) fn push_parts(
     table: &mut Table,
     search: &mut Search,

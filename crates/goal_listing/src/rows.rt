@@ -1,7 +1,7 @@
 //! The lines of rows.
 //!
-//! Errors: want of memory, and `Results` where the search would keep more than it may; each id
-//! keeps its tree.
+//! Errors: out of memory, and `Results` if the search would cache more than it may; every id keeps
+//! its tree.
 
 ghost use Rattle.std.specs.Prelude.{◌≡◌, ◌≤◌, ◌+◌, ◌&&◌, ◌++◌, ◌∷◌, [], OnOk, All, map, take};
 ghost use Rattle.std.specs.Prelude.{true, false, not, slice_index_or, is_some};
@@ -49,7 +49,7 @@ fn push_goal(
     Ok(())
 }
 
-/// The line of what is known behind a branch, which stands under `depth` others.
+/// Adds the line of the hypothesis that a branch adds; the branch is under `depth` others.
 fn push_known(
     table: &mut Table,
     bound: Option<u32>,
@@ -117,7 +117,7 @@ fn goal_count(table: &Table, row: &Row) -> usize
     }
 }
 
-/// The mark at a place, or false behind them.
+/// Returns the mark at an index, or false past the last.
 pub(crate) fn mark_at(marks: &[bool], place: usize) -> bool
     ensures { result ≡ slice_index_or marks.now place false }
 {
@@ -161,7 +161,7 @@ fn first(ids: &[Id], count: usize) -> &[Id]
     }
 }
 
-/// The hint of a goal under `depth` branches, where these are known.
+/// Adds the hint for a goal under `depth` branches and the hypotheses `known`.
 #[tactic(auto, using(goal_proofs::proofs::Kept::rows))]
 fn push_goal_hint(
     table: &mut Table,
@@ -190,7 +190,7 @@ fn push_goal_hint(
     Ok(())
 }
 
-/// The hint at a row, where it is wanted.
+/// Adds the hint for the goal of a row if it is wanted.
 #[tactic(auto, using(goal_proofs::proofs::Kept::rows))]
 fn push_row_hint(
     table: &mut Table,
@@ -226,7 +226,7 @@ fn push_row_hint(
     }
 }
 
-/// The line of a row, and its hint where it is wanted.
+/// Adds the line of a row, and its hint if it is wanted.
 #[tactic(auto, using(goal_proofs::proofs::Kept::rows))]
 fn push_row_lines(
     table: &mut Table,
@@ -256,7 +256,7 @@ fn push_row_lines(
     Ok(())
 }
 
-/// Adds what is known behind a row, and takes away what isn't known there.
+/// Adds the hypothesis that holds after a row, and removes the ones that don't hold there.
 fn learn(known: &mut Vec<Id>, table: &Table, row: &Row) -> Result<(), AllocError>
     requires known { AllKnown table.now known.old.items }
     requires row { HasKnownId table.now row.now }
@@ -277,7 +277,8 @@ fn learn(known: &mut Vec<Id>, table: &Table, row: &Row) -> Result<(), AllocError
     }
 }
 
-/// Adds what is known behind a branch under `depth` others, of which so many more stay known.
+/// Adds the hypothesis of a branch under `depth` others. The hypotheses of the start and of the
+/// `depth` branches stay; later ones are removed.
 fn learn_at(known: &mut Vec<Id>, table: &Table, id: Id, depth: u32) -> Result<(), AllocError>
     requires known { AllKnown table.now known.old.items }
     requires id { IsKnown table.now id }
@@ -292,8 +293,8 @@ fn learn_at(known: &mut Vec<Id>, table: &Table, id: Id, depth: u32) -> Result<()
     Ok(())
 }
 
-/// The lines of rows, whose goals have these marks in order, where `start` is known; the first goal
-/// that isn't easy is followed by its hint.
+/// Adds the lines of rows, whose goals have these marks in order, under the hypothesis `start`; the
+/// hint follows the first goal that isn't easy.
 pub(crate) fn push_rows(
     table: &mut Table,
     search: &mut Search,

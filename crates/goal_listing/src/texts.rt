@@ -1,6 +1,6 @@
 //! The text of lines, and of the entries that they name.
 //!
-//! Errors: want of memory alone.
+//! Errors: out of memory.
 
 ghost use Rattle.std.specs.Prelude.{◌≡◌, ◌++◌, ◌∷◌, [], true, map, IfOk, IfSome, OnOk};
 ghost use Rattle.std.specs.List.{AllByRecursion, flat_map};
@@ -145,7 +145,7 @@ fn push_entries(out: &mut Vec<u8>, table: &Table) -> Result<(), AllocError>
     Ok(())
 }
 
-/// The text of lines, and behind them the lines of the entries that they name.
+/// Returns the text of the lines, followed by the lines of the entries that they name.
 pub(crate) fn lines_text(table: &Table, lines: &[ShownLine]) -> Result<Vec<u8>, AllocError>
     requires { AreKnownLines table.now lines.now }
     ensures { IfOk result (λ v.

@@ -1,12 +1,12 @@
-//! What the last line of a listing says, with nothing to run.
+//! Theorems about a listing's last line; nothing here runs.
 
 ghost use Rattle.goal_listing.specs.Laws.{NamesFirst};
 
 use goal_marks::mark_laws;
 use goal_tree::laws as goal_laws;
 
-/// The last line of a listing names the first part of the condition that isn't easy, where one
-/// isn't: the one that `condition_prover::prove_condition` names.
+/// States that the last line of a listing names the first part of the condition that isn't easy, if
+/// there is one: the part that `condition_prover::prove_condition` names.
 pub fn laws()
     ensures first { NamesFirst }
 {

@@ -1,10 +1,10 @@
-//! Which goals of a verification condition are easy.
+//! Marks each goal of a verification condition as provable by `prove` or not.
 //!
-//! The layer above uses that `marks_of` answers one mark a goal of a part, in order: true where the
-//! class of easy conditions proves the goal, or what it stands in, under what is known there
-//! (`specs/Marks`); and that a part has a proof in the class exactly where all its marks are true
-//! (`mark_laws`). Source: Necula, Proof-Carrying Code, POPL 1997 (the rules); the search is this
-//! project's own.
+//! `marks_of` returns one mark for each goal of a part, in order: true if the class of easy
+//! conditions proves the goal, or what it is part of, under the goal's hypotheses (`specs/Marks`).
+//! A part has a proof in the class exactly if all its marks are true (`mark_laws`).
+//!
+//! Source: Necula, Proof-Carrying Code, POPL 1997 (the rules); the search is this project's own.
 #![tactic(auto)]
 
 mod marking;

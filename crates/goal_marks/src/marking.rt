@@ -1,7 +1,7 @@
-//! The marks of a part's goals.
+//! Marking the goals of a part.
 //!
-//! Errors: want of memory, and `Results` where more results than the search may keep would be kept;
-//! each id keeps its tree.
+//! Errors: out of memory, and `Results` if the search would cache more results than it may; every
+//! id keeps its tree.
 
 ghost use Rattle.std.specs.Prelude.{◌≡◌, ◌≤◌, ℕ, Option, IfOk, OnOk, length};
 ghost use Rattle.term_table.specs.Table.{IsKnown, tree_at, Extends};
@@ -24,11 +24,11 @@ use hyp_proofs::Hypotheses;
 use std::alloc::AllocError;
 use term_table::{Id, Table};
 
-/// How many binders count as outside of what stands under a part's quantifiers: those of the memory and
-/// of registers 0 to 30, and that of the steps that are left, which counts where it isn't there too.
+/// How many binders are outside of what is below a part's quantifiers: those of the memory and of
+/// registers 0 to 30, and that of the remaining steps, which counts even if it is absent.
 pub const PART_BINDERS: u32 = 33;
 
-/// Marks the goals that the rows begin with as easy, and answers the rows that are left.
+/// Marks the goals that the rows begin with as easy, and returns the remaining rows.
 fn push_easy<'a>(rows: &'a [Row], marks: &mut Vec<bool>) -> Result<&'a [Row], AllocError>
     ensures exact { IfOk result (λ rest.
         AreAllEasy rows.now marks.old.items marks.new.items rest.now) }
@@ -50,8 +50,8 @@ fn push_easy<'a>(rows: &'a [Row], marks: &mut Vec<bool>) -> Result<&'a [Row], Al
     }
 }
 
-/// Marks the goals that the rows begin with, which `goal` stands for under the hypotheses of
-/// `context`, and answers the rows that are left.
+/// Marks the goals that the rows begin with, which together are `goal`, under the hypotheses of
+/// `context`, and returns the remaining rows.
 #[cycle(marking)]
 #[tactic(auto, using(goal_proofs::proofs::Kept::rows))]
 fn push_marks<'a>(
@@ -80,7 +80,8 @@ fn push_marks<'a>(
     push_parts(table, search, context, counted, goal, rows, marks)
 }
 
-/// The same of goals that aren't easy as a whole.
+/// Marks the goals that the rows begin with, which together are `goal`, if `goal` isn't easy as a
+/// whole; returns the remaining rows.
 #[cycle(marking)]
 #[tactic(auto, using(goal_proofs::proofs::Kept::rows))]
 fn push_parts<'a>(
@@ -175,7 +176,7 @@ fn push_under<'a>(
     }
 }
 
-/// What stands under all the quantifiers at a formula's head.
+/// Returns what is below all the quantifiers at a formula's head.
 fn under_quantifiers(table: &Table, id: Id) -> Id
     requires { IsKnown table.now id }
     ensures known { IsKnown table.now result }
@@ -189,7 +190,7 @@ fn under_quantifiers(table: &Table, id: Id) -> Id
     }
 }
 
-/// Marks the goals of a part, of which `inner` stands under its quantifiers.
+/// Marks the goals of a part; `inner` is what is below its quantifiers.
 #[tactic(auto, using(goal_proofs::proofs::Kept::rows))]
 fn push_part(
     table: &mut Table,
@@ -217,12 +218,12 @@ fn push_part(
     Ok(())
 }
 
-/// The marks of the goals of a part, one each in order: true where the goal is easy, by itself or as
-/// what it stands in is. It says so of whatever part `part` shows. `counted` says whether steps are
-/// counted.
+/// Returns one mark for each goal of a part, in order: true if the goal is easy, by itself or
+/// because what it is part of is. The marks are right for every part that `part` shows. `counted`
+/// says whether steps are counted.
 ///
-/// Errors: want of memory, and `Results` where `search` would keep more than it may; each id keeps its
-/// tree.
+/// Errors: out of memory, and `Results` if `search` would cache more than it may; every id keeps
+/// its tree.
 #[tactic(auto, using(goal_proofs::proofs::Kept::rows))]
 pub fn marks_of(
     table: &mut Table,

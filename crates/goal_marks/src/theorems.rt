@@ -1,4 +1,4 @@
-//! What marks say of parts, with nothing to run.
+//! Theorems about the marks of parts; nothing here runs.
 
 ghost use Rattle.std.specs.Prelude.{◌≡◌, ℕ, Bool, List, Option, map, length, is_some};
 ghost use Rattle.prover_class.specs.Parts.{part_proof, first_not_easy};
@@ -7,9 +7,9 @@ ghost use Rattle.goal_marks.specs.Marks.{part_form, part_marks, count_of, all_tr
 
 use goal_proofs::round_laws;
 
-/// A part has a proof in the class of easy conditions exactly where each of its goals is marked as
-/// easy, so the first part that isn't easy is the first with a goal that isn't. There is one mark a
-/// goal.
+/// States what marks say. A part has a proof in the class of easy conditions exactly if each of its
+/// goals is marked as easy (`part`), so the first part that isn't easy is the first part with a
+/// goal that isn't marked (`first`). There is one mark for each goal (`length`).
 pub fn mark_laws()
     ensures part { (bound : Option ℕ) (p : Part) → let counted = is_some bound in
         is_some (part_proof counted (part_form bound p)) ≡ all_true (part_marks counted p) }

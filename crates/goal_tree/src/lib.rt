@@ -1,10 +1,12 @@
-//! What the verification condition asks, goal by goal.
+//! Splits a verification condition into goals, each with its instruction, reason, formula and
+//! enclosing branches.
 //!
-//! The layers above use that `condition_goals` lists the goals of each part of a condition, in the
-//! order of the code, each with the index that asks for it and why, its formula as an id of the
-//! condition's own term, and the branches that it stands under. Goals stand in `specs/Goals`, rows
-//! in `specs/Rows`; `laws` says that the goals, conjoined as the code asks for them, are the
-//! condition of `vcgen`. Source: Necula, Proof-Carrying Code, POPL 1997, section 3.
+//! `condition_goals` lists the goals of each part of a condition, in the order of the code. Each
+//! goal has the index that asks for it and why, its formula as an id of the condition's own term,
+//! and the branches that it is under. `specs/Goals` defines goals, `specs/Rows` rows. `laws` says
+//! that the goals, conjoined as the code asks for them, are the condition of `vcgen`.
+//!
+//! Source: Necula, Proof-Carrying Code, POPL 1997, section 3.
 #![tactic(auto)]
 
 mod parts;

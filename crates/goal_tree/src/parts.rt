@@ -1,6 +1,6 @@
-//! The goals of each part of a condition.
+//! Listing the goals of each part of a verification condition.
 //!
-//! Errors: want of memory alone.
+//! Errors: out of memory.
 
 ghost use Rattle.std.specs.Prelude.{◌≡◌, ◌<◌, ◌≤◌, [], ◌∷◌, All, IfOk, length, map, drop, is_some};
 ghost use Rattle.alpha_cfg.specs.Cuts.{AreFlags};
@@ -21,15 +21,15 @@ use alpha_cfg::Cut;
 use std::alloc::AllocError;
 use term_table::{Id, Table};
 
-/// How many quantifiers a part has: for m and r0 to r30, and for the steps that are left where
-/// these are counted.
+/// Returns how many quantifiers a part has: for m and r0 to r30, and for the remaining steps if
+/// they are counted.
 fn quantifiers(counted: bool) -> u32
     ensures { result ≡ quantifiers counted }
 {
     if counted { 33 } else { 32 }
 }
 
-/// The implication that stands under a part's quantifiers.
+/// Returns the implication below a part's quantifiers.
 #[tactic(auto, unfolding(crate::specs::Inside::Parts::implication))]
 fn implication(program: &Program, part: Id) -> Id
     requires { IsKnown program.now.table.now part }
@@ -114,7 +114,7 @@ fn inv_part(program: &Program, index: u32, part: Id) -> Result<PartRows, AllocEr
     })
 }
 
-/// Writes a part behind those that there are.
+/// Appends a part to the list.
 fn push(table: &Table, out: &mut Vec<PartRows>, part: PartRows) -> Result<(), AllocError>
     requires { HasKnownIds table.now part }
     ensures { let added = part_view table.now part ∷ [] in
@@ -178,16 +178,20 @@ fn parts_of(
     Ok(parts)
 }
 
-/// Lists the goals of each part of a condition, in the order of the code: the part of the start,
-/// then that of each annotated index. `invs` are the annotated indices, in the order of the
-/// condition's parts; their ids aren't looked at. `bound` is the most steps that the code may make,
-/// where they are bounded, and `condition` the condition's id, as `condition_prover::condition_in`
-/// makes it. The rows are right of each code with these indices and this bound whose condition the
-/// id encodes; of any other id they say nothing. Nothing is added to the table, since each formula
-/// stands in the condition's own term. Time and rows go by the unfolded length of `cut`, whose limit
-/// is tested before a condition is made (`vcgen::MAX_UNFOLDED`).
+/// Lists the goals of each part of a verification condition, in the order of the code: the part of
+/// the start, then the part of each annotated index. Adds nothing to the table, since each formula
+/// occurs in the condition's own term.
 ///
-/// Fails for want of memory alone.
+/// `invs` are the annotated indices, in the order of the condition's parts; their ids aren't used.
+/// `bound` is the maximal number of steps of the code, if steps are bounded. `condition` is the
+/// condition's id, as `condition_prover::condition_in` makes it. The rows are right for all code
+/// with these indices and this bound whose condition the id encodes; for any other id they say
+/// nothing.
+///
+/// Time and number of rows depend on the unfolded length of `cut`, whose limit is tested before a
+/// condition is made (`vcgen::MAX_UNFOLDED`).
+///
+/// Errors: out of memory.
 pub fn condition_goals(
     table: &Table,
     cut: &Cut,

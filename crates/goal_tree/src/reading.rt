@@ -1,4 +1,5 @@
-//! Formulas taken apart by their form alone. Of an id without the parts each answers the id itself.
+//! Takes formulas apart by the shape of their terms. For an id of another shape each function
+//! returns the id itself.
 
 ghost use Rattle.std.specs.Prelude.{◌≡◌};
 ghost use Rattle.term_table.specs.Table.{IsKnown, tree_at};
@@ -6,7 +7,7 @@ ghost use Rattle.goal_tree.specs.Inside.Reading.{right_of, left_of, under_binder
 
 use term_table::{Id, Node, Table};
 
-/// The second side of a connective, or what a quantifier is applied to.
+/// Returns the second side of a connective, or the function that a quantifier is applied to.
 pub(crate) fn right(table: &Table, id: Id) -> Id
     requires { IsKnown table.now id }
     ensures is { tree_at table.now result ≡ right_of (tree_at table.now id) }
@@ -28,7 +29,7 @@ pub(crate) fn right(table: &Table, id: Id) -> Id
     }
 }
 
-/// The first side of a connective.
+/// Returns the first side of a connective.
 pub(crate) fn left(table: &Table, id: Id) -> Id
     requires { IsKnown table.now id }
     ensures is { tree_at table.now result ≡ left_of (tree_at table.now id) }
@@ -50,7 +51,7 @@ pub(crate) fn left(table: &Table, id: Id) -> Id
     }
 }
 
-/// What stands under the binder.
+/// Returns the body of a binder.
 fn under_binder(table: &Table, id: Id) -> Id
     requires { IsKnown table.now id }
     ensures is { tree_at table.now result ≡ under_binder (tree_at table.now id) }
@@ -72,7 +73,7 @@ fn under_binder(table: &Table, id: Id) -> Id
     }
 }
 
-/// What a quantifier stands over.
+/// Returns the formula below a quantifier.
 fn body(table: &Table, id: Id) -> Id
     requires { IsKnown table.now id }
     ensures is { tree_at table.now result ≡ body_of (tree_at table.now id) }
@@ -81,7 +82,7 @@ fn body(table: &Table, id: Id) -> Id
     under_binder(table, right(table, id))
 }
 
-/// What so many quantifiers stand over.
+/// Returns what is below so many quantifiers.
 pub(crate) fn under(table: &Table, count: u32, id: Id) -> Id
     requires { IsKnown table.now id }
     ensures is { tree_at table.now result ≡ under count (tree_at table.now id) }

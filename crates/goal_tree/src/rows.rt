@@ -1,38 +1,38 @@
-//! Goals as rows.
+//! Goals in a flat list of rows.
 
 use term_table::Id;
 
-/// Why a goal is asked.
+/// Why the code asks for a goal.
 #[derive(Clone, Copy)]
 pub enum Why {
-    /// The right to load.
+    /// An access needs the right to load.
     Load,
-    /// The right to store.
+    /// An access needs the right to store.
     Store,
-    /// A step has to be left.
+    /// At least one step has to be left.
     Step,
     /// The postcondition has to hold.
     Return,
     /// The invariant of this index has to hold.
     Reach(u32),
-    /// Nothing comes next.
+    /// No instruction follows, so code that gets here would leave its end.
     Leave,
 }
 
-/// A row of what is asked. The rows of what stands inside follow behind it.
+/// A row of a list of goals. The rows of what a row contains follow it.
 #[derive(Clone, Copy)]
 pub enum Row {
-    /// A goal that the index `at` asks for, under so many branches.
+    /// A goal that the index `at` asks for, under `depth` branches.
     Goal {
         at: u32,
         why: Why,
         formula: Id,
         depth: u32,
     },
-    /// Two that are both asked: the rows of the one, then those of the other.
+    /// A conjunction: the rows of its first side follow, then those of its second side.
     Both,
-    /// What is asked where the branch at `at` is taken, or isn't, by what is then known; the branch
-    /// itself stands under so many others.
+    /// What is asked if the branch at `at` is taken, or isn't, under the hypothesis `known`; the
+    /// branch itself is under `depth` others.
     Under {
         at: u32,
         taken: bool,
@@ -41,15 +41,15 @@ pub enum Row {
     },
 }
 
-/// A part of the condition.
+/// A part of the verification condition.
 #[derive(Drop)]
 pub struct PartRows {
-    /// The index where it begins.
+    /// The index at which the part begins.
     pub at: u32,
     /// The part as a formula.
     pub formula: Id,
-    /// What is known where it begins.
+    /// The hypothesis at the beginning of the part.
     pub known: Id,
-    /// What is then asked.
+    /// The goals of the part.
     pub rows: Vec<Row>,
 }

@@ -1,10 +1,11 @@
-//! What holds of goals, with nothing to run.
+//! Theorems about goals; nothing here runs.
 
 ghost use Rattle.goal_tree.specs.Laws.{AreConditions, IsEntryPart, AreInvParts};
 
-/// The goals that an index asks for, conjoined as the code asks for them, are what has to hold
-/// there by the verification condition; and the goals of each part of the condition, behind what is
-/// known, are that part.
+/// States that the goals add up to the verification condition. The goals that an index asks for,
+/// conjoined as the code asks for them, are the condition's weakest precondition at that index
+/// (`conditions`). The goals of each part, under the part's hypothesis, are that part (`entry`,
+/// `invs`).
 pub fn laws()
     ensures conditions { AreConditions }
     ensures entry { IsEntryPart }

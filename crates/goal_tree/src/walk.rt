@@ -1,10 +1,10 @@
 //! The walk along code and the term of its condition, which lists the goals.
 //!
-//! A walk follows the code as the condition was made by it, and the term beside it: it takes the
-//! term apart where the code asks for two things, and makes none. On code that is cut it meets no
-//! index twice on its way, so it recurses at most once for each instruction, of which there are at
-//! most 1,024, through six functions; the rows are at most seven for each index of the unfolded
-//! length.
+//! A walk follows the code as `vcgen` does when it makes the condition, and the term in step with
+//! it: it takes the term apart if the code asks for two things, and makes no term. On code that is
+//! cut it meets no index twice on its way, so it recurses at most once for each instruction, of
+//! which there are at most 1,024, through six functions. The rows are at most seven for each index
+//! of the unfolded length.
 
 ghost use Rattle.std.specs.Prelude.{◌≡◌, ℕ, ◌+◌, ◌<◌, [], ◌∷◌, true, false, IfOk};
 ghost use Rattle.std.specs.Prelude.{length, slice_get};
@@ -22,8 +22,8 @@ use alpha_words::{Format, MemoryKind, memory_kind};
 use std::alloc::AllocError;
 use term_table::{Id, Table};
 
-/// What a walk goes by: the term's table, the code with its annotated indices, and whether steps
-/// are counted.
+/// What a walk reads: the term's table, the code with its annotated indices, and whether steps are
+/// counted.
 #[derive(Clone, Copy)]
 pub(crate) struct Program<'a> {
     pub(crate) table: &'a Table,
@@ -31,7 +31,7 @@ pub(crate) struct Program<'a> {
     pub(crate) counted: bool,
 }
 
-/// Writes a row behind those that there are.
+/// Appends a row to the list.
 fn push(table: &Table, out: &mut Vec<Row>, row: Row) -> Result<(), AllocError>
     requires { HasKnownId table.now row }
     ensures { let added = row_view table.now row ∷ [] in
@@ -64,9 +64,9 @@ fn push_goal(
     push(table, out, row)
 }
 
-/// Lists what `index` asks where the code goes on to index `to`, following at most `fuel` more: the
-/// invariant of an annotated index, else what the instruction there asks. The term of it is `id`,
-/// and it stands under `depth` branches.
+/// Lists what `index` asks for if the code goes on to index `to`, following at most `fuel` more:
+/// the invariant of an annotated index, else what the instruction there asks for. `id` is the term
+/// of it, and it is under `depth` branches.
 #[cycle(walking)]
 pub(crate) fn walk(
     program: &Program,
@@ -95,7 +95,8 @@ pub(crate) fn walk(
     walk_from(program, out, fuel - 1, to, depth, id)
 }
 
-/// Lists a goal that `index` asks, and behind it what it asks where the code goes on to the next.
+/// Lists a goal that `index` asks for, and then what it asks for if the code goes on to the next
+/// index.
 #[cycle(walking)]
 fn walk_behind(
     program: &Program,
@@ -123,7 +124,8 @@ fn walk_behind(
     walk(program, out, fuel, index, index + 1, depth, rest)
 }
 
-/// Lists what `index` asks where its branch is taken, or isn't, and the code goes on to index `to`.
+/// Lists what `index` asks for if its branch is taken, or isn't, and the code goes on to index
+/// `to`.
 #[cycle(walking)]
 fn walk_side(
     program: &Program,
@@ -156,7 +158,7 @@ fn walk_side(
     walk(program, out, fuel, index, to, depth + 1, rest)
 }
 
-/// Lists what `index` asks where its branch to index `to` is taken, and where it isn't.
+/// Lists what `index` asks for if its branch to index `to` is taken, and if it isn't.
 #[cycle(walking)]
 fn walk_both(
     program: &Program,
@@ -228,8 +230,8 @@ fn walk_insn(
     }
 }
 
-/// Lists what `index` asks where steps are counted: that one is left, and behind it what its
-/// instruction asks.
+/// Lists what `index` asks for if steps are counted: that one is left, and then what its
+/// instruction asks for.
 #[cycle(walking)]
 fn walk_counted(
     program: &Program,
@@ -256,7 +258,8 @@ fn walk_counted(
     walk_insn(program, out, fuel, index, depth, rest)
 }
 
-/// Lists what `index` asks, whether it is annotated or not, following at most `fuel` indices more.
+/// Lists what `index` asks for, whether it is annotated or not, following at most `fuel` indices
+/// more.
 #[cycle(walking)]
 pub(crate) fn walk_from(
     program: &Program,

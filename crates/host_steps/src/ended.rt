@@ -5,17 +5,17 @@ ghost use Rattle.host_steps.specs.RunEnds.{outcome_of, goes_on_after};
 
 use alpha_cfg::Outcome;
 
-/// How a host's run ended. No access is tested, so none is blocked.
+/// How a run that tests no access ended. No end is `blocked`, since no access is tested.
 #[derive(Clone, Copy, Debug, PartialEq, Eq)]
 pub enum Ended {
-    /// A return, with the word of register 0.
+    /// The code returned, with this word in register 0.
     Returned(u64),
-    /// The whole budget of steps was made, and none returned.
+    /// The run made all steps of its budget, and none of them was a return.
     OutOfSteps,
 }
 
 impl Ended {
-    /// The same as an outcome of the machine that tests each access.
+    /// Returns this end as an outcome of the machine that tests each access.
     pub fn outcome(self) -> Outcome
         ensures { result ≡ outcome_of self }
     {
@@ -25,7 +25,7 @@ impl Ended {
         }
     }
 
-    /// Whether the host may go on.
+    /// Returns whether the run may go on, that is, whether it ended out of steps.
     pub fn goes_on(self) -> bool
         ensures { result ≡ goes_on_after self }
     {

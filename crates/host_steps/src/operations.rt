@@ -1,4 +1,4 @@
-//! Code as operations, one an instruction, each with its operator and its kind of operand in one tag.
+//! Predecoded code: an operation for each instruction, its operator and kind of operand in one tag.
 
 ghost use Rattle.std.specs.Prelude.{◌≡◌, ◌<◌, length, IfOk};
 ghost use Rattle.host_steps.specs.Operations.{IsWriteAt, IsBranchAt};
@@ -9,9 +9,9 @@ use alpha_words::{Cond, Insn, Reg, Rhs};
 use std::alloc::{AllocError, Global};
 use word_ops::Op;
 
-/// What an instruction does. An operator of profile 1 has one operation for a register as its
-/// second operand, and one, `..Lit`, for a literal; the others share `Oper` and `OperLit`. `to` is
-/// the index that a branch leads to. No operation writes register 31.
+/// A predecoded instruction. An operator of profile 1 has one operation for a register as its
+/// second operand, and one, `..Lit`, for a literal; the other operators share `Oper` and `OperLit`.
+/// `to` is the index that a branch leads to. No operation writes register 31.
 #[derive(Clone, Copy)]
 pub enum Operation {
     /// `ra := rb + disp`.
@@ -36,17 +36,17 @@ pub enum Operation {
     Sll { ra: Reg, rb: Reg, rc: Reg },
     /// `rc := ra` shifted to the right by `rb`.
     Srl { ra: Reg, rb: Reg, rc: Reg },
-    /// `rc :=` 1 where `ra = rb`, else 0.
+    /// `rc :=` 1 if `ra = rb`, else 0.
     Cmpeq { ra: Reg, rb: Reg, rc: Reg },
-    /// `rc :=` 1 where `ra < rb`, signed, else 0.
+    /// `rc :=` 1 if `ra < rb`, signed, else 0.
     Cmplt { ra: Reg, rb: Reg, rc: Reg },
-    /// `rc :=` 1 where `ra ≤ rb`, signed, else 0.
+    /// `rc :=` 1 if `ra ≤ rb`, signed, else 0.
     Cmple { ra: Reg, rb: Reg, rc: Reg },
-    /// `rc :=` 1 where `ra < rb`, else 0.
+    /// `rc :=` 1 if `ra < rb`, unsigned, else 0.
     Cmpult { ra: Reg, rb: Reg, rc: Reg },
-    /// `rc :=` 1 where `ra ≤ rb`, else 0.
+    /// `rc :=` 1 if `ra ≤ rb`, unsigned, else 0.
     Cmpule { ra: Reg, rb: Reg, rc: Reg },
-    /// `rc :=` what the operator gives of `ra` and `rb`.
+    /// `rc :=` the operator's result for `ra` and `rb`.
     Oper { op: Op, ra: Reg, rb: Reg, rc: Reg },
     /// `rc := ra + lit`.
     AddLit { ra: Reg, lit: u8, rc: Reg },
@@ -60,39 +60,39 @@ pub enum Operation {
     SllLit { ra: Reg, lit: u8, rc: Reg },
     /// `rc := ra` shifted to the right by `lit`.
     SrlLit { ra: Reg, lit: u8, rc: Reg },
-    /// `rc :=` 1 where `ra = lit`, else 0.
+    /// `rc :=` 1 if `ra = lit`, else 0.
     CmpeqLit { ra: Reg, lit: u8, rc: Reg },
-    /// `rc :=` 1 where `ra < lit`, signed, else 0.
+    /// `rc :=` 1 if `ra < lit`, signed, else 0.
     CmpltLit { ra: Reg, lit: u8, rc: Reg },
-    /// `rc :=` 1 where `ra ≤ lit`, signed, else 0.
+    /// `rc :=` 1 if `ra ≤ lit`, signed, else 0.
     CmpleLit { ra: Reg, lit: u8, rc: Reg },
-    /// `rc :=` 1 where `ra < lit`, else 0.
+    /// `rc :=` 1 if `ra < lit`, unsigned, else 0.
     CmpultLit { ra: Reg, lit: u8, rc: Reg },
-    /// `rc :=` 1 where `ra ≤ lit`, else 0.
+    /// `rc :=` 1 if `ra ≤ lit`, unsigned, else 0.
     CmpuleLit { ra: Reg, lit: u8, rc: Reg },
-    /// `rc :=` what the operator gives of `ra` and `lit`.
+    /// `rc :=` the operator's result for `ra` and `lit`.
     OperLit { op: Op, ra: Reg, lit: u8, rc: Reg },
-    /// To `to` where the lowest bit of `ra` is 0.
+    /// Branches to `to` if the lowest bit of `ra` is 0.
     Blbc { ra: Reg, to: u32 },
-    /// To `to` where `ra = 0`.
+    /// Branches to `to` if `ra = 0`.
     Beq { ra: Reg, to: u32 },
-    /// To `to` where `ra < 0`, signed.
+    /// Branches to `to` if `ra < 0`, signed.
     Blt { ra: Reg, to: u32 },
-    /// To `to` where `ra ≤ 0`, signed.
+    /// Branches to `to` if `ra ≤ 0`, signed.
     Ble { ra: Reg, to: u32 },
-    /// To `to` where the lowest bit of `ra` is 1.
+    /// Branches to `to` if the lowest bit of `ra` is 1.
     Blbs { ra: Reg, to: u32 },
-    /// To `to` where `ra` isn't 0.
+    /// Branches to `to` if `ra` isn't 0.
     Bne { ra: Reg, to: u32 },
-    /// To `to` where `ra ≥ 0`, signed.
+    /// Branches to `to` if `ra ≥ 0`, signed.
     Bge { ra: Reg, to: u32 },
-    /// To `to` where `ra > 0`, signed.
+    /// Branches to `to` if `ra > 0`, signed.
     Bgt { ra: Reg, to: u32 },
-    /// To `to`.
+    /// Branches to `to`.
     Br { to: u32 },
-    /// Ends the run.
+    /// Returns, which ends the run.
     Ret,
-    /// Only goes on: the instruction writes register 31.
+    /// Does nothing but go on to the next instruction: the instruction would write register 31.
     Next,
 }
 
@@ -199,7 +199,9 @@ fn operation_of(code: &Code, i: u32) -> Operation
     }
 }
 
-/// The operations of the code, one an instruction, in order. Fails only for want of memory.
+/// Returns the operations of `code`, one for each instruction, in order.
+///
+/// Errors: out of memory.
 pub fn operations_of(alloc: Global, code: &Code) -> Result<Vec<Operation>, AllocError>
     ensures { IfOk result (λ operations. AreOperations code.now operations.items) }
 {

@@ -1,4 +1,4 @@
-//! The registers of a host, with a place for each number.
+//! The registers of an interpreter that tests no access, with a place for each register number.
 
 ghost use Rattle.std.specs.Prelude.{◌≡◌, ◌<◌, slice_index};
 ghost use Rattle.word_ops.specs.Registers.{read_reg, write_reg};
@@ -6,8 +6,8 @@ ghost use Rattle.word_ops.specs.Registers.{read_reg, write_reg};
 use alpha_words::Reg;
 use std::marker::Model;
 
-/// The words of registers 0 to 30, and a 0 in the place of register 31, so that no number is tested.
-/// Contracts see the 31 words.
+/// The words of registers 0 to 30, and a 0 in the place of register 31, so that no register number
+/// is tested. Contracts see the 31 words.
 #[derive(Drop)]
 pub struct Slots {
     words: [u64; 32],
@@ -27,7 +27,8 @@ impl Model for Slots {
 impl Slots {
     ghost use Rattle.host_steps.specs.Slots.{argument_regs};
 
-    /// The registers of a start: 16, 17 and 18 have these words, and all others are 0.
+    /// Returns the registers of a start: registers 16, 17 and 18 have these words, all others are
+    /// 0.
     pub fn new(r16: u64, r17: u64, r18: u64) -> Slots
         ensures { result ≡ argument_regs r16 r17 r18 }
     {
@@ -38,7 +39,7 @@ impl Slots {
         Slots { words }
     }
 
-    /// A register's word, which is 0 for register 31.
+    /// Returns the word of register `reg`, which is 0 for register 31.
     #[inline(always)]
     pub fn read(&self, reg: Reg) -> u64
         ensures { result ≡ read_reg self.now reg }
@@ -46,7 +47,7 @@ impl Slots {
         self.words[reg.number() as usize]
     }
 
-    /// Writes the word of a register that isn't 31.
+    /// Writes `word` to register `reg`, which must not be register 31.
     #[inline(always)]
     pub fn write(&mut self, reg: Reg, word: u64)
         requires { reg < 31 }
@@ -55,7 +56,7 @@ impl Slots {
         self.words[reg.number() as usize] = word;
     }
 
-    /// The word of register 0, which is that of a return.
+    /// Returns the word of register 0, which is the result of a return.
     #[inline(always)]
     pub fn result(&self) -> u64
         ensures { result ≡ slice_index self.now 0 }

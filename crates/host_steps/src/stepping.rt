@@ -1,4 +1,4 @@
-//! Steps and runs that test no access, over the parts of a host.
+//! Steps and runs that test no access, on the state of a host.
 
 ghost use Rattle.std.specs.Prelude.{◌≡◌, ◌+◌, ◌<◌, length, if◌then◌else◌, pos, ◌*ℤ◌};
 ghost use Rattle.word_ops.specs.Memory as memory;
@@ -23,12 +23,12 @@ use alpha_words::{Cond, Reg};
 use reference_machine::{aligned, takes};
 use word_ops::{Op, apply};
 
-/// What a step that tests no access answers.
+/// What a step that tests no access did.
 #[derive(Clone, Copy, Debug, PartialEq, Eq)]
 pub(crate) enum Stepped {
-    /// It went on.
+    /// It went on to an instruction.
     Moved,
-    /// A return; nothing changed.
+    /// It returned; nothing changed.
     Returned,
 }
 
@@ -84,7 +84,7 @@ fn set_reg(word: u64, reg: Reg, index: &mut u32, slots: &mut Slots) -> Stepped
     Stepped::Moved
 }
 
-/// Puts what the operator gives of two registers into a register that isn't 31 and goes on.
+/// Writes the operator's result for two registers to a register that isn't 31 and goes on.
 #[inline(always)]
 fn operate(op: Op, ra: Reg, rb: Reg, rc: Reg, index: &mut u32, slots: &mut Slots) -> Stepped
     requires index { index.old < MAX_WORDS }
@@ -97,7 +97,8 @@ fn operate(op: Op, ra: Reg, rb: Reg, rc: Reg, index: &mut u32, slots: &mut Slots
     set_reg(apply(op, slots.read(ra), slots.read(rb)), rc, index, slots)
 }
 
-/// Puts what the operator gives of a register and a literal into a register that isn't 31 and goes on.
+/// Writes the operator's result for a register and a literal to a register that isn't 31 and goes
+/// on.
 #[inline(always)]
 fn operate_lit(op: Op, ra: Reg, lit: u8, rc: Reg, index: &mut u32, slots: &mut Slots) -> Stepped
     requires index { index.old < MAX_WORDS }
@@ -136,7 +137,7 @@ fn go_to(to: u32, index: &mut u32) -> Stepped
     Stepped::Moved
 }
 
-/// Goes on to the instruction at an index where the condition holds of a word, else to the next.
+/// Goes on to the instruction at index `to` if the condition holds for the word, else to the next.
 #[inline(always)]
 fn branch(cond: Cond, word: u64, to: u32, index: &mut u32) -> Stepped
     requires index { index.old < MAX_WORDS }
@@ -233,8 +234,9 @@ fn step(
     }
 }
 
-/// Makes at most `budget` steps, a return among them. They test no access; the caller knows that none
-/// would be blocked, were all of the arena from `base` on allowed. The index stays inside the code.
+/// Runs at most `budget` steps (a return counts) from the instruction at `index`, and returns how
+/// the run ended. Tests no access: the caller knows that none would be blocked if all of the arena,
+/// which begins at address `base`, were allowed. The index stays inside the code.
 pub fn run_steps(
     code: &Code,
     operations: &[Operation],

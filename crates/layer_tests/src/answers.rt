@@ -1,9 +1,11 @@
-//! Results in words.
+//! Results whose errors are messages.
 
-/// A result whose fault, in words, fails the test.
+/// A result whose error is a message that fails the test.
 pub type Made<T> = Result<T, &'static str>;
 
-/// The answer, or "no memory".
+/// Returns the value of the result.
+///
+/// Errors: the message "no memory", whatever the error was.
 pub fn made<T: Drop, E: Drop>(answer: Result<T, E>) -> Made<T> {
     match answer {
         Ok(it) => Ok(it),

@@ -1,11 +1,13 @@
-//! Tests of libraries by public calls, of what no row shows: laws that nothing else calls,
-//! substitution in formulas, faults in words, parts of the testing machine, budgets of turns, files
-//! and output, what `demo` takes, a size that no file has, tables beside a plain program, conditions
-//! under a limit, what is accepted, and hosts.
+//! Unit tests of library calls, for what the table-driven tests don't cover.
 //!
-//! They stand in a crate of their own, since the gate proves all of a crate once more with its
-//! tests, and in one, since each crate of tests is built with all that it stands on. What a text, a
-//! code word, a term or a policy comes to is in rows (table_rows, lf_rows, command_rows).
+//! They test theorems that no code calls, substitution in formulas, messages of faults, parts of
+//! the testing machine, budgets of turns, files and output, what `demo` takes, a size that no file
+//! has, tables used by a plain program, conditions under a limit, what is accepted, and hosts.
+//!
+//! They are in a crate of their own, since `rt ci` proves all of a crate once more with its tests,
+//! and in one crate, since each crate of tests is built with all crates that it depends on. Rows
+//! test what a text, a code word, a term or a policy results in (table_rows, lf_rows,
+//! command_rows).
 #![tactic(auto)]
 
 #[cfg(test)]

@@ -1,4 +1,4 @@
-//! The functions of all rules by the rules' numbers, over each signature of word arithmetic.
+//! Calls of the function of each rule by the rule's number, over each signature of word arithmetic.
 
 ghost use Rattle.std.specs.Prelude.{[], ◌∷◌};
 ghost use Rattle.term_table.specs.Table.{AllKnown};
@@ -20,7 +20,7 @@ use proof_kit::{
 use std::alloc::{AllocError, Global};
 use term_table::{Id, Table};
 
-/// What a rule's function answers.
+/// The result of a rule's function.
 pub type KitAnswer = Result<Option<Sequent>, AllocError>;
 
 /// The answer of the function of a rule of connectives.
@@ -237,7 +237,7 @@ fn of_later(
     }
 }
 
-/// The answer of the function of the rule of this number.
+/// Returns the result of the function of the rule with this number.
 pub fn by_number(
     alloc: Global,
     table: &mut Table,

@@ -1,4 +1,4 @@
-//! What instructions ask of memory.
+//! The memory accesses of instructions.
 
 ghost use Rattle.std.specs.Prelude.{◌≡◌, ◌+◌, ◌≤◌, ◌++◌};
 ghost use Rattle.arrayvec.specs.ArrayVec.{array_vec_len};
@@ -10,21 +10,21 @@ use alpha_words::Insn;
 use pcc_lines::{LINE, Line, push_hex, push_text};
 use reference_machine::{Agent, aligned};
 
-/// The most bytes that are said of an access: those of a store that is made.
+/// The maximal length in bytes of an access's text, which a store that is made has.
 pub const ACCESS: usize = 40;
 
-/// What a step asks of memory.
+/// The memory access that a step asks for.
 #[derive(Clone, Copy)]
 pub enum Access {
-    /// Nothing.
+    /// No access.
     Nothing,
-    /// The word at an address.
+    /// A load of the word at an address.
     Loads(u64),
-    /// That at an address stands a word.
+    /// A store to an address, of a word.
     Stores(u64, u64),
 }
 
-/// What an instruction asks of memory in the state of the agent.
+/// Returns the access that an instruction asks for in the state of the agent.
 pub fn access_of(agent: &Agent, insn: &Insn) -> Access
     ensures { result ≡ access_of agent.now.state.regs (action_of insn.now) }
 {
@@ -36,7 +36,7 @@ pub fn access_of(agent: &Agent, insn: &Insn) -> Access
     }
 }
 
-/// Adds a store: its address and, where it is made, the word.
+/// Appends a store: its address and, if it is made, the word.
 fn push_store(line: &mut Line, addr: u64, word: u64, step: &Step)
     requires { array_vec_len line.old + ACCESS ≤ LINE }
     ensures items { line.new.items
@@ -55,7 +55,8 @@ fn push_store(line: &mut Line, addr: u64, word: u64, step: &Step)
     }
 }
 
-/// Adds what a step asked of memory: the kind and the address, and the word of a store that is made.
+/// Appends the access that a step asked for: its kind and address, and the word of a store that is
+/// made.
 pub fn push_access(line: &mut Line, access: Access, step: &Step)
     requires { array_vec_len line.old + ACCESS ≤ LINE }
     ensures items { line.new.items ≡ line.old.items ++ access_text access step.now }

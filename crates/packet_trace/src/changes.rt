@@ -8,7 +8,7 @@ ghost use Rattle.packet_trace.specs.Inside.Written.{register_written, memory_wri
 use alpha_words::{Format, Insn, MemoryKind, Reg, memory_kind};
 use pcc_lines::{LINE, Line, push_decimal, push_hex, push_text};
 
-/// The most bytes that are said of a register that changes.
+/// The maximal length in bytes of a register change's text.
 pub const CHANGE: usize = 39;
 
 /// The register that an instruction of the memory format writes, by what it does with its first one.
@@ -21,7 +21,8 @@ fn memory_written(kind: MemoryKind, ra: Reg) -> Reg
     }
 }
 
-/// The register that an instruction writes; register 31, which never changes, where it writes none.
+/// Returns the register that an instruction writes, or register 31, which never changes, if it
+/// writes none.
 pub fn register_written(insn: &Insn) -> Reg
     ensures { result ≡ register_written (action_of insn.now) }
 {
@@ -32,7 +33,7 @@ pub fn register_written(insn: &Insn) -> Reg
     }
 }
 
-/// Adds a register and its word, where that isn't the one before.
+/// Appends a register and its word, if that isn't the word before.
 pub fn push_change(line: &mut Line, reg: Reg, before: u64, after: u64)
     requires { array_vec_len line.old + CHANGE ≤ LINE }
     ensures items { line.new.items ≡ line.old.items ++ word_change reg before after }

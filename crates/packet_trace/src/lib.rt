@@ -1,10 +1,10 @@
-//! A packet's run as text, step by step.
+//! Prints a run of code on a packet step by step, with accesses and register changes.
 //!
-//! The layer above makes a `Tracer` and lets it print a packet: a line for each step of the testing
-//! machine, with the instruction, what it loads or stores, and the register that changes, and the
-//! result line of the packet behind them. What is printed stands in `specs/Traces`: what a step asks
-//! of memory in `specs/Accesses`, which register changes in `specs/Changes`. The texts of the
-//! instructions are made before the first line, so that no print takes memory.
+//! A `Tracer` prints a packet: a line for each step of the testing machine, with the instruction,
+//! what it loads or stores, and the register that changes; the packet's result line follows them.
+//! `specs/Traces` defines what is printed, `specs/Accesses` what a step asks of memory,
+//! `specs/Changes` which register changes. The texts of the instructions are made before the first
+//! line, so printing takes no memory.
 #![tactic(auto)]
 
 mod accesses;

@@ -1,4 +1,4 @@
-//! The lines of a run.
+//! Printing the lines of a run.
 
 ghost use Rattle.std.specs.Prelude.{◌≡◌, ◌+◌, ◌≤◌, ◌<◌, ◌++◌, length, slice_get, Some, codes, decimal};
 ghost use Rattle.arrayvec.specs.ArrayVec.{array_vec_len};
@@ -36,7 +36,7 @@ fn push_front(line: &mut Line, index: u32, text: &[u8])
     line.try_extend_from_slice(text).unwrap();
 }
 
-/// Makes a step and adds its line to an empty one; answers how the step ended.
+/// Makes a step and appends its line to an empty one; returns how the step ended.
 fn push_step(line: &mut Line, agent: &mut Agent, code: &Code, texts: &Texts) -> Step
     requires empty { array_vec_len line.old ≡ 0 }
     requires within { agent.old.state.index < length code.now }
@@ -63,7 +63,8 @@ fn push_step(line: &mut Line, agent: &mut Agent, code: &Code, texts: &Texts) -> 
     step
 }
 
-/// Makes a step and prints its line as one piece; answers how the step ended, and how the put went.
+/// Makes a step and prints its line as one piece; returns how the step ended, and how the write
+/// went.
 fn print_step<S: Sink>(agent: &mut Agent, code: &Code, texts: &Texts, out: &mut S) -> (Step, Put)
     requires within { agent.old.state.index < length code.now }
     requires texts { texts.now ≡ code_texts code.now }
@@ -80,8 +81,8 @@ fn print_step<S: Sink>(agent: &mut Agent, code: &Code, texts: &Texts, out: &mut 
     (step, put)
 }
 
-/// Makes at most `budget` steps and prints the line of each before the next is made; answers how the
-/// run ended, or None at the first put that fails.
+/// Runs at most `budget` steps and prints the line of each before the next step is made. Returns
+/// how the run ended, or None at the first write that fails.
 pub fn print_steps<S: Sink>(
     agent: &mut Agent,
     code: &Code,

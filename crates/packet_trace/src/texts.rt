@@ -12,7 +12,7 @@ use insn_text::{laws, push_insn};
 use std::alloc::{AllocError, Global};
 use std::marker::Model;
 
-/// Texts, made once. Contracts see the list of them.
+/// The texts of all instructions of code, made once. Contracts see the list of them.
 #[derive(Drop)]
 pub struct Texts {
     texts: Vec<Vec<u8>>,
@@ -37,7 +37,9 @@ fn text_of(alloc: Global, index: u32, insn: Insn) -> Result<Vec<u8>, AllocError>
 }
 
 impl Texts {
-    /// The texts of the code's instructions, each at the index of its instruction.
+    /// Creates the texts of the code's instructions, each at the index of its instruction.
+    ///
+    /// Errors: out of memory.
     pub fn of(alloc: Global, code: &Code) -> Result<Texts, AllocError>
         ensures { IfOk result (λ texts. texts ≡ code_texts code.now) }
     {
@@ -51,7 +53,7 @@ impl Texts {
         Ok(Texts { texts })
     }
 
-    /// The text at an index.
+    /// Returns the text of the instruction at index `i`.
     pub fn text(&self, i: u32) -> &[u8]
         requires { i < length self.now }
         ensures { slice_get self.now i ≡ Some result.now }

@@ -1,4 +1,4 @@
-//! What prints a packet's run.
+//! Printing the run of a packet.
 
 ghost use Rattle.std.specs.Prelude.{◌≡◌, ◌≤◌, length, IfOk};
 ghost use Rattle.file_port.specs.Sink.{Puts};
@@ -15,7 +15,7 @@ use policy_set::Policy;
 use reference_machine::Agent;
 use std::alloc::{AllocError, Global};
 
-/// Code whose runs are printed step by step, from the starts of a policy, with the same budget of
+/// Code whose runs are printed step by step, from the start states of a policy, with one budget of
 /// steps for each packet.
 #[derive(Drop)]
 pub struct Tracer {
@@ -30,8 +30,10 @@ pub struct Tracer {
 impl Tracer {
     ghost use Rattle.packet_trace.specs.Tracers.{traced_text};
 
-    /// The tracer of the code under the policy, with at most `steps` steps for a packet. All memory
-    /// that it needs is reserved; it is an error where there is none.
+    /// Creates a tracer of the code under the policy, with at most `steps` steps for each packet,
+    /// and reserves all memory that it needs.
+    ///
+    /// Errors: out of memory.
     pub fn new(alloc: Global, policy: Policy, code: Code, steps: u64) -> Result<Tracer, AllocError>
         ensures { IfOk result (λ tracer. traced_text tracer ≡ packet_text policy code steps) }
     {
@@ -46,9 +48,10 @@ impl Tracer {
         })
     }
 
-    /// Runs the packet of a number, of at most `MAX_PACKET` bytes, prints the line of each step, as one
-    /// piece, before the next step is made, and its result line behind them; stops at the first put
-    /// that fails. For a short packet it prints the result line alone. It takes no memory.
+    /// Runs packet `number`, whose bytes are `packet`, at most `MAX_PACKET`. Prints the line of
+    /// each step, as one piece, before the next step is made, and then the packet's result line;
+    /// stops at the first write that fails. If the packet is too short for the policy, prints the
+    /// result line alone. Takes no memory.
     pub fn print_packet<S: Sink>(&mut self, number: u64, packet: &[u8], out: &mut S) -> Put
         requires { length packet.now ≤ MAX_PACKET }
         ensures exact { Puts (traced_text self.old number packet.now)

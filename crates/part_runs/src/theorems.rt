@@ -1,4 +1,4 @@
-//! What holds of the definitions, with nothing to run.
+//! Theorems about the definitions; nothing here runs.
 
 ghost use Rattle.std.specs.Prelude.{ℕ, ◌<◌, IsSome};
 ghost use Rattle.word_ops.specs.Rights.{Rights};
@@ -14,13 +14,15 @@ ghost use Rattle.host_steps.specs.declared.ended.Ended.{Ended};
 ghost use Rattle.host_steps.specs.Stepping.{EndsUnblocked};
 ghost use Rattle.part_runs.specs.Parts.{PartView, PartFits, open_state, part_at_start, rights_of, IsPartRun, IsPartRunUnder};
 
-/// Of annotated code whose condition is true. The rights of a start that lies in a part and meets
-/// the precondition fit the part, all steps of the bound being left (`start`); where steps are
-/// bounded, rights fit only while some are left (`left`). Under rights that fit, a run that tests
-/// no access isn't blocked (`unblocked`) and is the run of the machine that tests each; out of
-/// steps, they fit again, its steps fewer being left, and a run that might make all that are left
-/// of a bound returns (`run`). From a number on at which their stores end, quadwords that are 0
-/// stay so (`unwritten`).
+/// States the theorems about annotated code whose verification condition is true.
+///
+/// If a start lies in a part and satisfies the precondition, its rights fit the part, with all
+/// steps of the bound left (`start`). If steps are bounded, rights fit only while some steps are
+/// left (`left`). Under rights that fit, a run that tests no access isn't blocked (`unblocked`) and
+/// is the run of the machine that tests each access. If it ends out of steps, the rights fit again,
+/// with its steps fewer left; a run that might make all that are left of a bound returns (`run`).
+/// If the rights allow no store from some quadword on, and all quadwords from there on are 0, they
+/// stay 0 (`unwritten`).
 pub fn laws()
     ensures start { (c : AnnotatedCode) (base : ℕ) (setup : StartView) → IsAnnotated c
         → IsValid (condition c) → Fits base setup → IsState (start_state base setup)

@@ -1,9 +1,9 @@
-//! `pcc`: assembles, proves, judges and runs Alpha code that carries its proof.
+//! The verified program pcc: assembles, proves, checks and runs proof-carrying Alpha code.
 //!
-//! The top call is `pcc`; the program, pcc_main, calls it over the real files and output. What
-//! arguments ask for, and what each command does, stands in pcc_commands; what a run of each means in
-//! `specs/Headline`. What a run does, however it goes, and what that says of status and counts,
-//! sentence by sentence, stands in pcc_exit.
+//! The top call is `pcc`; the program, pcc_main, calls it over the real files and output.
+//! pcc_commands says what arguments ask for, and what each command does; `specs/Headline` says what
+//! a run of each command means. pcc_exit says how a run may end, and what that says of exit status
+//! and counts, sentence by sentence.
 #![tactic(auto)]
 
 mod top_call;

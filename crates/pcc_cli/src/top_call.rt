@@ -25,7 +25,8 @@ use pcc_stages::{Stop, status_after};
 use pcc_words::{Command, read_arguments};
 use std::alloc::Global;
 
-/// Reads and refuses: what the run comes to, by the arguments and the files. Nothing is printed.
+/// Makes the reads and the write of the command that the arguments are, and returns its report or
+/// its stop. Prints nothing.
 fn decide<'a, F: Files>(
     alloc: Global,
     words: &'a [String],
@@ -49,7 +50,7 @@ fn decide<'a, F: Files>(
     }
 }
 
-/// Prints what the run came to, and answers with its status.
+/// Prints the report or stop of the run, and returns the exit status.
 fn print<S: Sink>(decision: Result<Report, Stop<'_>>, out: &mut S) -> u8
     ensures { Prints (exit_of report_exit decision.entry)
         (S.state out.old) (S.state out.new) result }
@@ -60,36 +61,40 @@ fn print<S: Sink>(decision: Result<Report, Stop<'_>>, out: &mut S) -> u8
     }
 }
 
-/// Does what the arguments `words` ask for, over the files and the output, and answers with the
-/// status: 0 done, 1 refused, 2 the arguments are no command, 3 a file is missing or its read
-/// failed, 4 a write or a put failed, 5 want of memory. The program's name is not among the
-/// arguments.
+/// Runs the command that the arguments `words` ask for, over the files and the output, and returns
+/// the exit status. The program's name isn't among the arguments. The status is 0 done, 1 refused,
+/// 2 the arguments aren't a command, 3 a file is missing or its read failed, 4 a write to a file or
+/// to the output failed, 5 out of memory.
 ///
-/// Reads and refuses first, and prints then; nothing is printed before all files were read.
+/// Reads and refuses first, and prints then; nothing is printed before all files are read.
 ///
 /// By `runs`, whatever the files hold, the log of the files grows by the reads and the write that
-/// the command asks for, in their order, and by no other; what is put on the output, and the
-/// status, go by what these reads gave. By `means`, that is for each command what its users want
-/// to know of it: `check` reads FILE once, and puts `accepted` exactly where the bytes that were
-/// read are accepted under the policy; told by `@NAME`, that is the policy which the bytes spell
-/// that one read of NAME gave before. `run` runs the code that was accepted of these bytes alone,
-/// and puts the lines of the machine that tests every access; what `prove` writes is accepted; what
-/// `upgrade` writes is accepted under each policy under which what it read is; and so is what `bpf`
-/// writes, whose runs return 0 on a packet where the program's value is 0, else 1, and what it says
-/// where IN is no program is the first thing that is wrong with it; and `host` puts for each turn
-/// what its agent comes to alone, with its own budgets, whatever the other agents do.
-/// By `sound`, of every policy, also of one from a file, no run of accepted code from a state that
-/// satisfies the precondition is blocked, and what it returns satisfies the postcondition.
-/// By `safe`, the same holds of the starts of the policy that `run` takes, and such a run neither
-/// changes nor depends on anything outside its rights; by `apart`, no address is in the parts of
-/// two agents of a host, and the rights of each agent at its start lie in its own part, from where
-/// the same holds: so none changes or learns anything of another's. By `returns`, where accepted
-/// bytes bound their steps, no packet of `run` is out of steps with at least as many for each, and
-/// an agent of a host returns within them.
+/// the command asks for, in their order, and by no other event. The text on the output, and the
+/// status, are a function of what these reads gave.
 ///
-/// By `ends`, where the contents of the files are known, a run ends with the answer over them, or as
-/// a failed call or want of memory brings; where they aren't, less is known. By `accounts`, its
-/// status and the counts of faults say what `Accounts` lists, so that each status has its cause.
+/// By `means`, a run of each command does what its users want to know. `check` reads FILE once, and
+/// prints `accepted` exactly if the bytes read are accepted under the policy; for a policy `@NAME`,
+/// that is the policy in the bytes that one earlier read of NAME gave. `run` runs the code that was
+/// accepted from these bytes only, and prints the lines of the machine that tests each access. What
+/// `prove` writes is accepted. What `upgrade` writes is accepted under each policy under which the
+/// container that it reads is accepted. What `bpf` writes is accepted, and its runs on a packet
+/// return 0 if the program's value is 0, else 1; if IN isn't a program, `bpf` prints the first
+/// thing that is wrong with it. `host` prints for each turn the result that its agent has alone,
+/// with its own budgets, whatever the other agents do.
+///
+/// By `sound`, for every policy, also from a file, no run of accepted code from a state that
+/// satisfies the precondition is blocked, and what it returns satisfies the postcondition. By
+/// `safe`, this holds for the start states of the policy that `run` uses, and such a run neither
+/// changes nor depends on anything outside its rights. By `apart`, no address is in the parts of
+/// two agents of a host, and the rights of each agent at its start lie in its own part, from where
+/// it runs safely too: so no agent changes or learns anything of another's. By `returns`, if
+/// accepted bytes bound their steps, no packet of `run` is out of steps with at least as many for
+/// each, and an agent of a host returns within the bound.
+///
+/// By `ends`, if the contents of the files are known, a run ends with the answer over them, or as a
+/// failed call or running out of memory requires; if they aren't known, less is known. By
+/// `accounts`, the exit status and the counts of faults say what `Accounts` lists, so that each
+/// status has its cause.
 pub fn pcc<F: Files, S: Sink>(alloc: Global, words: Vec<String>, files: &mut F, out: &mut S) -> u8
     ensures runs { Runs texts (task_of (map string_bytes words.items)).stage
         (F.log files.old) (F.log files.new) (F.state files.old) (F.state files.new)
@@ -119,9 +124,10 @@ pub fn pcc<F: Files, S: Sink>(alloc: Global, words: Vec<String>, files: &mut F, 
     print(decision, out)
 }
 
-/// Of whatever runs as a command asks for, `pcc` or another: where the contents of the files are
-/// known, it ends with the answer over them, or as a failed call or want of memory brings; where they
-/// aren't, less is known (`Ends`); and its status and the counts of faults say what `Accounts` lists.
+/// States how runs end, for anything that runs as a command asks for, `pcc` or another program. If
+/// the contents of the files are known, the run ends with the answer over them, or as a failed call
+/// or running out of memory requires; if they aren't known, less is known (`Ends`). Its exit status
+/// and the counts of faults say what `Accounts` lists.
 pub fn laws()
     ensures ends { (args : List (List ℕ)) (e e' : List Event) (f g : FilesState) (s t : SinkState)
         (status : ℕ) → Runs texts (task_of args).stage e e' f g s t status

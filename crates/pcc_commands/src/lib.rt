@@ -1,8 +1,8 @@
-//! The commands of `pcc`: what each reads, refuses and writes, and what it then has to print.
+//! Implements each command of pcc: what it reads, refuses, writes and prints.
 //!
-//! The layer above uses that each command, over any files, reads and writes what its stage says
-//! (`Decides` of `stage_of`), and that a `Report` prints its lines. What arguments ask for stands in
-//! `specs/Tasks`, over the stages in `specs/Stages` and a file a command in `specs/Commands`.
+//! Each command, over any files, reads and writes what its stage says (`Decides` of `stage_of`),
+//! and a `Report` prints its lines. `specs/Tasks` says what arguments ask for, over the stages in
+//! `specs/Stages` and a file for each command in `specs/Commands`.
 #![tactic(auto)]
 
 mod commands;

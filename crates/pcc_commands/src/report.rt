@@ -1,4 +1,4 @@
-//! What a command prints that is done.
+//! What a command that is done prints.
 
 ghost use Rattle.file_port.specs.Sink.{Puts};
 ghost use Rattle.pcc_lines.specs.Results.{result_lines};
@@ -11,8 +11,8 @@ use pcc_lines::{DemoSummary, print_accepted, print_demo, print_results, print_wr
 use policy_set::PolicyKind;
 use safe_host::HostRunner;
 
-/// What runs packets, those of a file, and the kind of the policy that they are run under. All
-/// memory that the runs need is reserved.
+/// A runner for packets, the packets of a file, and the kind of the policy that they are run under.
+/// All memory that the runs need is reserved.
 #[derive(Drop)]
 pub struct Job<R> {
     pub kind: Option<PolicyKind>,
@@ -21,7 +21,7 @@ pub struct Job<R> {
 }
 
 impl<R: PacketRunner + Drop> Job<R> {
-    /// Runs the packets, and prints the result line of each.
+    /// Runs the packets, and prints the result line of each; stops at the first write that fails.
     fn print<S: Sink>(self, out: &mut S) -> Put
         ensures { Puts (result_lines self.kind (R.results self.runner) 0 self.packets)
             (S.state out.old) (S.state out.new) result }
@@ -36,25 +36,25 @@ impl<R: PacketRunner + Drop> Job<R> {
     }
 }
 
-/// What a command prints that is done.
+/// What a command that is done prints.
 #[derive(Drop)]
 pub enum Report {
     /// The container is accepted.
     Accepted,
     /// So many bytes were written.
     Written(u64),
-    /// The result line of each packet, by the machine that tests every access.
+    /// The result line of each packet, run by the machine that tests each access.
     Results(Job<TestingRunner>),
-    /// The result line of each packet, by the host that tests none.
+    /// The result line of each packet, run by the host that tests no access.
     Hosted(Job<HostRunner>),
-    /// The line of each turn of agents, by the host that tests no access.
+    /// The line of each turn of agents, run by the host that tests no access.
     Turns(TurnJob),
-    /// What the runs of `demo` came to.
+    /// The figures about the runs of `demo`.
     Demo(DemoSummary),
 }
 
 impl Report {
-    /// Makes the report's lines and prints them; stops at the first put that fails.
+    /// Makes the report's lines and prints them; stops at the first write that fails.
     pub fn print<S: Sink>(self, out: &mut S) -> Put
         ensures { Puts (report_text self) (S.state out.old) (S.state out.new) result }
     {

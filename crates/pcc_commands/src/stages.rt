@@ -1,5 +1,5 @@
-//! The stages of commands: each gives its value, or what ends the command there. A stage stands in
-//! `specs/Stages` under the same name.
+//! The stages of commands: each returns its value, or what ends the command there. `specs/Stages`
+//! defines each stage under its name.
 
 ghost use Rattle.std.specs.Prelude.{◌≡◌, ◌≤◌, length, is_some};
 ghost use Rattle.std.specs.Prelude.{IfOk, IfErr};
@@ -37,7 +37,8 @@ use policy_set::Policy;
 use proof_container::{Head, profile_of, write};
 use std::alloc::Global;
 
-/// The most bytes that are read of a program of classic BPF; none is longer than 320.
+/// The maximal number of bytes that are read of a program of classic BPF; no program is longer than
+/// 320.
 pub const MAX_PROGRAM_FILE: u32 = 65_536;
 
 /// What the gate says of the bytes.
@@ -54,7 +55,7 @@ fn judged<'a>(alloc: Global, policy: &Policy, bytes: &[u8]) -> Result<Accepted, 
     }
 }
 
-/// What the bytes hold, where they are accepted under the policy.
+/// Checks the container in the bytes under the policy, and returns what was accepted.
 pub fn accepted_in<'a>(alloc: Global, policy: &Policy, bytes: &[u8]) -> Result<Accepted, Stop<'a>>
     ensures exact { GivesPure (λ a. tt) (judging.accepted_in policy.now bytes.now) result }
     ensures code { GivesPure (λ a. a.code) (judging.accepted_code_in policy.now bytes.now) result }
@@ -65,7 +66,8 @@ pub fn accepted_in<'a>(alloc: Global, policy: &Policy, bytes: &[u8]) -> Result<A
     judged(alloc, policy, bytes)
 }
 
-/// The bytes of the container with a proof of its condition under the policy, or why there is none.
+/// Returns the bytes of the container with a proof of its verification condition under the policy;
+/// stops if there is none.
 pub fn proved_in<'a>(alloc: Global, policy: &Policy, bytes: &[u8]) -> Result<Vec<u8>, Stop<'a>>
     ensures { GivesPure (λ bytes. bytes.items) (proving.proved_in policy.now bytes.now) result }
 {
@@ -80,8 +82,8 @@ pub fn proved_in<'a>(alloc: Global, policy: &Policy, bytes: &[u8]) -> Result<Vec
     }
 }
 
-/// The source that the text spells in the profile of the version; its invariants may name the steps
-/// that are left where there is a bound.
+/// Parses the text as a source in the profile of the version; its invariants may name the remaining
+/// steps if there is a bound.
 #[tactic(auto, unfolding(crate::specs::Stages::Assembling::source_in))]
 fn source_in<'a>(
     alloc: Global,
@@ -125,8 +127,8 @@ fn assembled_as<'a>(
     }
 }
 
-/// The container of the version and the bound, as bytes, that the source which the text spells is
-/// assembled into for the policy.
+/// Assembles the source in the text for the policy, and returns the bytes of the container with
+/// this version and step bound.
 pub fn assembled_in<'a>(
     alloc: Global,
     version: u32,
@@ -146,7 +148,8 @@ pub fn assembled_in<'a>(
     assembled_as(alloc, version, bound, policy, &source)
 }
 
-/// What the file of the name holds, where it is accepted under the policy.
+/// Reads the container file with this name, checks it under the policy, and returns what was
+/// accepted.
 pub fn accepted_of<'a, F: Files>(
     alloc: Global,
     policy: &Policy,
@@ -163,7 +166,8 @@ pub fn accepted_of<'a, F: Files>(
     accepted_in(alloc, policy, &bytes)
 }
 
-/// The same of the container in the file of the name.
+/// Reads the container file with this name, and returns its bytes with a proof of its verification
+/// condition under the policy; stops if there is none.
 pub fn proved_of<'a, F: Files>(
     alloc: Global,
     policy: &Policy,
@@ -177,8 +181,8 @@ pub fn proved_of<'a, F: Files>(
     proved_in(alloc, policy, &bytes)
 }
 
-/// The container of the version and the bound, as bytes, that the source in the file of the name is
-/// assembled into for the policy.
+/// Reads the source file with this name, assembles it for the policy, and returns the bytes of the
+/// container with this version and step bound.
 pub fn assembled_of<'a, F: Files>(
     alloc: Global,
     version: u32,
@@ -226,7 +230,8 @@ fn upgraded_in<'a>(alloc: Global, bytes: &[u8]) -> Result<Vec<u8>, Stop<'a>>
     }
 }
 
-/// The same of the container in the file of the name.
+/// Reads the container file with this name, and returns the bytes of the container of version 2
+/// that it is upgraded to.
 pub fn upgraded_of<'a, F: Files>(
     alloc: Global,
     name: &'a str,
@@ -264,7 +269,7 @@ fn compiled_as<'a>(alloc: Global, program: &[Bpf]) -> Result<Vec<u8>, Stop<'a>>
     }
 }
 
-/// The same of the program that the bytes are.
+/// Parses the bytes as a program, compiles it, and returns the bytes of the container.
 fn compiled_in<'a>(alloc: Global, bytes: &[u8]) -> Result<Vec<u8>, Stop<'a>>
     ensures { GivesPure (λ bytes. bytes.items) (compiling.compiled_in bytes.now) result }
 {
@@ -275,7 +280,7 @@ fn compiled_in<'a>(alloc: Global, bytes: &[u8]) -> Result<Vec<u8>, Stop<'a>>
     compiled_as(alloc, &program)
 }
 
-/// The container, as bytes, that the program in the file of the name is compiled to.
+/// Reads the program file with this name, compiles it, and returns the bytes of the container.
 pub fn compiled_of<'a, F: Files>(
     alloc: Global,
     name: &'a str,
@@ -308,7 +313,7 @@ fn script_in<'a>(alloc: Global, text: &[u8]) -> Result<Script, Stop<'a>>
     }
 }
 
-/// The script in the file of the name.
+/// Reads the script in the file with this name.
 pub fn script_of<'a, F: Files>(
     alloc: Global,
     name: &'a str,
@@ -328,7 +333,7 @@ pub fn script_of<'a, F: Files>(
     script_in(alloc, &text)
 }
 
-/// Writes the bytes to the file of the name, and reports how many they are.
+/// Writes the bytes to the file with this name, and reports how many they are.
 pub fn write_to<'a, F: Files>(
     name: &'a str,
     bytes: &[u8],

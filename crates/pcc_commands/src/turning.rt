@@ -1,4 +1,4 @@
-//! How agents are loaded, and a turn is made.
+//! Loading agents and making turns.
 
 ghost use Rattle.std.specs.Prelude.{◌≡◌, ◌<◌, ◌≤◌, ◌++◌, ◌∷◌, [], List, length, slice_get};
 ghost use Rattle.file_port.specs.Sink.{Puts};
@@ -16,7 +16,7 @@ use agent_script::Turn;
 use file_port::{Put, Sink};
 use pcc_lines::print_turn;
 
-/// Loads each agent with its packet, of which none is short.
+/// Loads each agent with its packet, none of which is too short.
 pub fn load_all(host: &mut AgentHost, packets: &[Vec<u8>])
     requires few { length host.old ≤ MAX_AGENTS }
     requires count { length packets.now ≡ length host.old }
@@ -31,7 +31,7 @@ pub fn load_all(host: &mut AgentHost, packets: &[Vec<u8>])
     }
 }
 
-/// Makes the turn of a number, and prints its line.
+/// Makes the turn, whose number is `number`, and prints its line.
 pub fn make_turn<S: Sink>(host: &mut AgentHost, number: u64, turn: Turn, out: &mut S) -> Put
     requires agent { turn.agent < length host.old }
     requires loaded { IsLoadedAt host.old turn.agent }

@@ -1,4 +1,4 @@
-//! Agents that are to be loaded, and their turns.
+//! Agents to be loaded, and their turns.
 
 ghost use Rattle.std.specs.Prelude.{◌≡◌, ◌≤◌, length};
 ghost use Rattle.agent_host.specs.declared.host.TheConstants.{MAX_AGENTS};
@@ -9,8 +9,7 @@ use agent_host::AgentHost;
 use agent_script::Turn;
 use file_port::{Put, Sink};
 
-/// Agents, a packet for each, of which none is short, and turns. All memory that the runs need is
-/// reserved.
+/// Agents, a packet for each, none too short, and turns. All memory that the runs need is reserved.
 #[derive(Drop)]
 pub struct TurnJob {
     pub host: AgentHost,
@@ -27,7 +26,7 @@ impl TurnJob {
     ghost use Rattle.pcc_commands.specs.Reports.{job_lines};
 
     /// Loads the agents, makes the turns in order, and prints the line of each before the next is
-    /// made; stops at the first put that fails.
+    /// made; stops at the first write that fails.
     pub fn print<S: Sink>(self, out: &mut S) -> Put
         ensures { Puts (job_lines self) (S.state out.old) (S.state out.new) result }
     {

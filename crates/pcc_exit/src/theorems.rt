@@ -1,4 +1,4 @@
-//! What holds of the definitions, with nothing to run.
+//! Theorems about the definitions; nothing here runs.
 
 ghost use Rattle.std.specs.Prelude.{ℕ, List};
 ghost use Rattle.file_port.specs.Events.{Event};
@@ -9,9 +9,9 @@ ghost use Rattle.pcc_exit.specs.Runs.{Task, Runs, IsSuited, request_of_task};
 ghost use Rattle.pcc_exit.specs.Ends.{Ends};
 ghost use Rattle.pcc_exit.specs.Accounts.{Accounts};
 
-/// A run that does what a suited task asks for ends with the answer where the files are known, and
-/// as `Ends` says where they aren't; and however a run ends, its status and the counts say what
-/// `Accounts` lists.
+/// States how runs end. A run that does what a suited task asks for ends with the answer if the
+/// files are known, and as `Ends` says if they aren't (`ends`). However a run ends, its exit status
+/// and the counts say what `Accounts` lists (`accounts`).
 pub fn laws()
     ensures ends { (texts : Texts) (task : Task) (e e' : List Event) (f g : FilesState)
         (s t : SinkState) (status : ℕ)

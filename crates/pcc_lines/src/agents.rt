@@ -20,7 +20,7 @@ use packet_store::PacketFault;
 use pcc_gate::Refusal;
 use policy_set::PolicyKind;
 
-/// The most bytes of a line behind its agent that is always the same.
+/// The maximal length in bytes of the fixed text that follows the agent in a line.
 const FIXED: usize = 18;
 
 /// Begins a line of an agent.
@@ -46,7 +46,7 @@ fn print_agent<S: Sink>(agent: u32, text: &str, out: &mut S) -> Put
     out.put(line.as_slice())
 }
 
-/// Prints that no policy has the name that an agent's is to have.
+/// Prints that no policy has the name given for the agent.
 pub fn print_agent_unknown_policy<S: Sink>(agent: u32, out: &mut S) -> Put
     ensures { Puts (agent_line agent unknown_policy_line)
         (S.state out.old) (S.state out.new) result }
@@ -54,7 +54,7 @@ pub fn print_agent_unknown_policy<S: Sink>(agent: u32, out: &mut S) -> Put
     print_agent(agent, "unknown policy\n", out)
 }
 
-/// Prints that the file of an agent's container is longer than a file may be.
+/// Prints that the agent's container file is longer than a file may be.
 pub fn print_agent_too_long<S: Sink>(agent: u32, out: &mut S) -> Put
     ensures { Puts (agent_line agent container_too_long_line)
         (S.state out.old) (S.state out.new) result }
@@ -62,7 +62,7 @@ pub fn print_agent_too_long<S: Sink>(agent: u32, out: &mut S) -> Put
     print_agent(agent, "refused 1 TooLong\n", out)
 }
 
-/// Prints that an agent's packet file is longer than a file may be.
+/// Prints that the agent's packet file is longer than a file may be.
 pub fn print_agent_packets_too_long<S: Sink>(agent: u32, out: &mut S) -> Put
     ensures { Puts (agent_line agent packets_too_long_line)
         (S.state out.old) (S.state out.new) result }
@@ -70,21 +70,21 @@ pub fn print_agent_packets_too_long<S: Sink>(agent: u32, out: &mut S) -> Put
     print_agent(agent, "packets TooLong\n", out)
 }
 
-/// Prints that an agent's packet file has no packet.
+/// Prints that the agent's packet file has no packet.
 pub fn print_agent_no_packet<S: Sink>(agent: u32, out: &mut S) -> Put
     ensures { Puts (agent_line agent no_packet_line) (S.state out.old) (S.state out.new) result }
 {
     print_agent(agent, "no packet\n", out)
 }
 
-/// Prints that an agent's packet is short.
+/// Prints that the agent's packet is too short for its policy.
 pub fn print_agent_short<S: Sink>(agent: u32, out: &mut S) -> Put
     ensures { Puts (agent_line agent short_line) (S.state out.old) (S.state out.new) result }
 {
     print_agent(agent, "short\n", out)
 }
 
-/// Prints why an agent's container is refused, as one piece.
+/// Prints why the agent's container is refused, as one piece.
 #[tactic(auto, unfolding(crate::specs::Refusals::refusal_line))]
 pub fn print_agent_refusal<S: Sink>(agent: u32, refusal: Refusal, out: &mut S) -> Put
     ensures { Puts (agent_line agent (refusal_line refusal))
@@ -97,7 +97,7 @@ pub fn print_agent_refusal<S: Sink>(agent: u32, refusal: Refusal, out: &mut S) -
     out.put(line.as_slice())
 }
 
-/// Prints the first fault of an agent's packet file, as one piece.
+/// Prints the first fault of the agent's packet file, as one piece.
 #[tactic(auto, unfolding(crate::specs::PacketFaults::packet_fault_line))]
 pub fn print_agent_packet_fault<S: Sink>(agent: u32, fault: PacketFault, out: &mut S) -> Put
     ensures { Puts (agent_line agent (packet_fault_line fault))
@@ -113,7 +113,7 @@ pub fn print_agent_packet_fault<S: Sink>(agent: u32, fault: PacketFault, out: &m
     out.put(line.as_slice())
 }
 
-/// Adds what a turn came to.
+/// Appends the result of a turn.
 fn push_turn(line: &mut Line, kind: Option<PolicyKind>, outcome: Option<Outcome>, sum: u64)
     requires { array_vec_len line.old + RESULT ≤ LINE }
     ensures items { line.new.items ≡ line.old.items ++ turn_text kind outcome sum }
@@ -125,8 +125,9 @@ fn push_turn(line: &mut Line, kind: Option<PolicyKind>, outcome: Option<Outcome>
     }
 }
 
-/// Prints what the turn of a number came to, as one piece: how its run ended, and the sum of the agent's region
-/// behind it; no outcome where the agent had returned before. `kind` is that of the agent's policy.
+/// Prints the result of turn `number`, as one piece: how its run ended, followed by the sum of the
+/// agent's region; no outcome if the agent had returned before. `kind` is the kind of the agent's
+/// policy.
 #[tactic(auto, unfolding(crate::specs::Agents::turn_line))]
 pub fn print_turn<S: Sink>(
     kind: Option<PolicyKind>,

@@ -42,7 +42,7 @@ fn print_insn<S: Sink>(index: u64, kind: &str, out: &mut S) -> Put
     out.put(line.as_slice())
 }
 
-/// Prints the first thing that is wrong with bytes that are no program, as one piece.
+/// Prints the first thing that is wrong with bytes that aren't a BPF program, as one piece.
 pub fn print_bpf_flaw<S: Sink>(flaw: BpfFlaw, out: &mut S) -> Put
     ensures { Puts (bpf_flaw_line flaw) (S.state out.old) (S.state out.new) result }
 {

@@ -10,25 +10,25 @@ use crate::line::{DIGITS, LINE, Line, push_decimal, push_text};
 use arrayvec::ArrayVec;
 use file_port::{Put, Sink};
 
-/// What `demo` tells of its runs.
+/// The figures that `demo` prints about its runs.
 #[derive(Clone, Copy, Debug, PartialEq, Eq)]
 pub struct DemoSummary {
-    /// The code words that were accepted.
+    /// The number of code words that were accepted.
     pub words: u64,
-    /// The invariants.
+    /// The number of invariants.
     pub invariants: u64,
-    /// The packets that were run.
+    /// The number of packets that were run.
     pub packets: u64,
-    /// The steps of all packets.
+    /// The number of steps of all packets together.
     pub steps: u64,
-    /// The packets that returned 1.
+    /// The number of packets for which the code returned 1.
     pub ones: u64,
 }
 
-/// The most bytes of a text behind which a number stands.
+/// The maximal length in bytes of a text that a number follows.
 const COUNTED: usize = 16;
 
-/// Adds a number behind what it counts.
+/// Appends a text, and the number of what it names.
 fn push_count(line: &mut Line, text: &str, number: u64)
     requires text { length text.now ≤ COUNTED }
     requires room { array_vec_len line.old + COUNTED + DIGITS ≤ LINE }
@@ -74,7 +74,7 @@ fn print_ones<S: Sink>(ones: u64, out: &mut S) -> Put
     out.put(line.as_slice())
 }
 
-/// Prints the three lines of `demo`; stops at the first put that fails.
+/// Prints the three lines of `demo`; stops at the first write that fails.
 pub fn print_demo<S: Sink>(summary: DemoSummary, out: &mut S) -> Put
     ensures { Puts (demo_lines summary) (S.state out.old) (S.state out.new) result }
 {

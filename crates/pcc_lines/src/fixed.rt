@@ -1,4 +1,4 @@
-//! Lines that are always the same.
+//! Lines that never vary.
 
 ghost use Rattle.file_port.specs.Sink.{Puts};
 ghost use Rattle.pcc_lines.specs.Fixed.{usage_line, unknown_policy_line, packets_too_long_line};
@@ -8,14 +8,14 @@ ghost use Rattle.pcc_lines.specs.Fixed.{policy_too_long_line, already_line};
 
 use file_port::{Put, Sink};
 
-/// Prints which commands there are.
+/// Prints the usage line, which lists the commands.
 pub fn print_usage<S: Sink>(out: &mut S) -> Put
     ensures { Puts usage_line (S.state out.old) (S.state out.new) result }
 {
     out.put(b"usage: pcc asm|prove|check|run|ref|demo|upgrade|host|bpf\n")
 }
 
-/// Prints that no policy has the name.
+/// Prints that no policy has the name given.
 pub fn print_unknown_policy<S: Sink>(out: &mut S) -> Put
     ensures { Puts unknown_policy_line (S.state out.old) (S.state out.new) result }
 {
@@ -50,14 +50,14 @@ pub fn print_source_too_long<S: Sink>(out: &mut S) -> Put
     out.put(b"source TooLong\n")
 }
 
-/// Prints that the program's file is longer than what is read of one.
+/// Prints that the BPF program's file is longer than what is read of one.
 pub fn print_bpf_too_long<S: Sink>(out: &mut S) -> Put
     ensures { Puts bpf_too_long_line (S.state out.old) (S.state out.new) result }
 {
     out.put(b"bpf TooLong\n")
 }
 
-/// Prints that the script is longer than a script may be.
+/// Prints that the script's file is longer than a script may be.
 pub fn print_script_too_long<S: Sink>(out: &mut S) -> Put
     ensures { Puts script_too_long_line (S.state out.old) (S.state out.new) result }
 {
@@ -71,7 +71,7 @@ pub fn print_policy_too_long<S: Sink>(out: &mut S) -> Put
     out.put(b"policy TooLong\n")
 }
 
-/// Prints that the container that is to be upgraded is of a later version.
+/// Prints that the container to be upgraded is of a later version already.
 pub fn print_already<S: Sink>(out: &mut S) -> Put
     ensures { Puts already_line (S.state out.old) (S.state out.new) result }
 {

@@ -1,15 +1,15 @@
-//! The printed lines: how each is written, and what prints it.
+//! Prints each output line of the programs, one function for each, as specified.
 //!
-//! The layer above calls one function a line. Each has one clause: the line, or a part of it where
-//! a put fails, is put. A line is made in a fixed buffer and put as one piece; a line with a name
-//! is three pieces. No call takes memory. What a line is made of (`Line`, `push_text`, `push_decimal`,
-//! `push_hex`) serves lines of other crates too. A file of `src/` has its definitions in the file of
-//! `specs/` with the same name: lines that are always the same (`Fixed`), lines with a name
-//! (`Named`), faults of packet files (`PacketFaults`), why there is no proof (`Proving`), refusals
-//! (`Refusals`), result lines (`Results`), what is said of a source (`Sources`), faults
-//! of programs of classic BPF (`Bpf`), faults of scripts (`Scripts`), faults of policies from files
-//! (`Policies`), lines of agents (`Agents`), and the lines of `demo` (`Demo`). The names of the
-//! kinds of faults, and of measures, come from the crates that have them.
+//! Each function has one clause: it writes the line, or a prefix of it if a write fails. A line is
+//! made in a fixed buffer and written as one piece; a line with a name is three pieces. No call
+//! takes memory. The parts that lines are made of (`Line`, `push_text`, `push_decimal`, `push_hex`)
+//! serve lines of other crates too. A file of `src/` has its definitions in the file of `specs/`
+//! with its name: lines that never vary (`Fixed`), lines with a name (`Named`), faults of packet
+//! files (`PacketFaults`), why there is no proof (`Proving`), refusals (`Refusals`), result lines
+//! (`Results`), lines about a source (`Sources`), faults of programs of classic BPF (`Bpf`), faults
+//! of scripts (`Scripts`), faults of policies from files (`Policies`), lines of agents (`Agents`),
+//! and the lines of `demo` (`Demo`). The crates that define the kinds of faults, and the measures,
+//! have their names.
 #![tactic(auto)]
 
 mod agents;

@@ -1,4 +1,4 @@
-//! A line in a fixed buffer, and what is added to it.
+//! A line in a fixed buffer, and what is appended to it.
 
 ghost use Rattle.std.specs.Prelude.{◌≡◌, ◌+◌, ◌*◌, ◌≤◌, ◌<◌, ◌++◌, length, decimal};
 ghost use Rattle.arrayvec.specs.ArrayVec.{array_vec_len};
@@ -7,16 +7,16 @@ ghost use Rattle.pcc_lines.specs.Line.{hex_digit, hex_digits, hex_bytes};
 use arrayvec::ArrayVec;
 use itoa::Buffer;
 
-/// Room for the longest line without a name, in bytes.
+/// The size of a line's buffer in bytes, enough for the longest line without a name.
 pub const LINE: usize = 128;
 
-/// The most digits that a number has in decimal.
+/// The maximal number of decimal digits of a number.
 pub const DIGITS: usize = 20;
 
 /// A line, as far as it is made.
 pub type Line = ArrayVec<u8, LINE>;
 
-/// Adds a text.
+/// Appends a text.
 pub fn push_text(line: &mut Line, text: &str)
     requires { array_vec_len line.old + length text.now ≤ LINE }
     ensures items { line.new.items ≡ line.old.items ++ text.now }
@@ -25,7 +25,7 @@ pub fn push_text(line: &mut Line, text: &str)
     line.try_extend_from_slice(text.as_bytes()).unwrap();
 }
 
-/// Adds a number in decimal.
+/// Appends a number in decimal.
 pub fn push_decimal(line: &mut Line, number: u64)
     requires { array_vec_len line.old + DIGITS ≤ LINE }
     ensures items { line.new.items ≡ line.old.items ++ decimal number }
@@ -48,7 +48,7 @@ fn digit_of(value: u8) -> u8
     }
 }
 
-/// Adds the `count` last hexadecimal digits of a number.
+/// Appends the `count` last hexadecimal digits of a number.
 #[tactic(auto, unfolding(crate::specs::Line::hex_digits))]
 pub fn push_hex(line: &mut Line, count: u32, number: u64)
     requires { array_vec_len line.old + count ≤ LINE }
@@ -61,7 +61,7 @@ pub fn push_hex(line: &mut Line, count: u32, number: u64)
     }
 }
 
-/// Adds each byte as two hexadecimal digits.
+/// Appends each byte as two hexadecimal digits.
 pub fn push_bytes(line: &mut Line, bytes: &[u8])
     requires { array_vec_len line.old + 2 * length bytes.now ≤ LINE }
     ensures items { line.new.items ≡ line.old.items ++ hex_bytes bytes.now }

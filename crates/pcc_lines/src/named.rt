@@ -1,4 +1,4 @@
-//! Lines with a name, as three pieces each.
+//! Lines with a file's name, each written as three pieces.
 
 ghost use Rattle.std.specs.Prelude.{codes};
 ghost use Rattle.file_port.specs.Sink.{Puts};
@@ -13,7 +13,7 @@ fn print_text<S: Sink>(text: &str, out: &mut S) -> Put
     out.put(text.as_bytes())
 }
 
-/// Prints a text, the name behind it, and the line's end.
+/// Prints a text, the name after it, and the line's end.
 fn print_named<S: Sink>(text: &str, name: &str, out: &mut S) -> Put
     ensures { Puts (named_line text.now name.now) (S.state out.old) (S.state out.new) result }
 {
@@ -28,21 +28,21 @@ fn print_named<S: Sink>(text: &str, name: &str, out: &mut S) -> Put
     print_text("\n", out)
 }
 
-/// Prints that there is no file of the name.
+/// Prints that there is no file with this name.
 pub fn print_missing<S: Sink>(name: &str, out: &mut S) -> Put
     ensures { Puts (missing_line name.now) (S.state out.old) (S.state out.new) result }
 {
     print_named("missing ", name, out)
 }
 
-/// Prints that the read of the file of the name failed.
+/// Prints that the read of the file with this name failed.
 pub fn print_read_fault<S: Sink>(name: &str, out: &mut S) -> Put
     ensures { Puts (read_fault_line name.now) (S.state out.old) (S.state out.new) result }
 {
     print_named("read fault ", name, out)
 }
 
-/// Prints that the write of the file of the name failed.
+/// Prints that the write of the file with this name failed.
 pub fn print_write_fault<S: Sink>(name: &str, out: &mut S) -> Put
     ensures { Puts (write_fault_line name.now) (S.state out.old) (S.state out.new) result }
 {

@@ -8,10 +8,10 @@ use crate::line::{Line, push_decimal, push_text};
 use arrayvec::ArrayVec;
 use file_port::{Put, Sink};
 
-/// The most bytes of the name of what is wrong with a formula.
+/// The maximal length in bytes of the name of what is wrong with a formula.
 pub const MAX_FORM_KIND: usize = 8;
 
-/// Prints how many lines a policy's file has in place of two, as one piece.
+/// Prints how many lines a policy's file has instead of two, as one piece.
 #[tactic(auto, unfolding(crate::specs::Policies::policy_lines_line))]
 pub fn print_policy_lines<S: Sink>(count: u64, out: &mut S) -> Put
     ensures { Puts (policy_lines_line count) (S.state out.old) (S.state out.new) result }
@@ -35,9 +35,9 @@ pub fn print_policy_length<S: Sink>(number: u32, out: &mut S) -> Put
     out.put(line.as_slice())
 }
 
-/// Prints which line of a policy's file spells no formula, the position of the first token in it
-/// that is wrong, from 0, and the name of what is wrong there, of at most `MAX_FORM_KIND` bytes, as
-/// one piece.
+/// Prints which line of a policy's file isn't a formula, as one piece: the line's number, the
+/// position in it of the first token that is wrong, from 0, and the name of what is wrong there, of
+/// at most `MAX_FORM_KIND` bytes.
 #[tactic(auto, unfolding(crate::specs::Policies::policy_form_line))]
 pub fn print_policy_form<S: Sink>(number: u32, position: u64, kind: &str, out: &mut S) -> Put
     requires { length kind.now ≤ MAX_FORM_KIND }

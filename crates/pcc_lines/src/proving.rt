@@ -8,10 +8,10 @@ use crate::line::{Line, push_decimal, push_text};
 use arrayvec::ArrayVec;
 use file_port::{Put, Sink};
 
-/// The most bytes of the name of a measure.
+/// The maximal length in bytes of the name of a measure.
 pub const MAX_MEASURE: usize = 7;
 
-/// Prints which part of the condition isn't easy, as one piece.
+/// Prints which part of the verification condition isn't easy, as one piece.
 #[tactic(auto, unfolding(crate::specs::Proving::not_easy_line))]
 pub fn print_not_easy<S: Sink>(part: u32, out: &mut S) -> Put
     ensures { Puts (not_easy_line part) (S.state out.old) (S.state out.new) result }
@@ -23,7 +23,7 @@ pub fn print_not_easy<S: Sink>(part: u32, out: &mut S) -> Put
     out.put(line.as_slice())
 }
 
-/// Prints that a measure with the name `name`, of at most `MAX_MEASURE` bytes, is past its limit, and
+/// Prints that the measure called `name`, of at most `MAX_MEASURE` bytes, is past its limit, and
 /// that it is `number`, as one piece.
 #[tactic(auto, unfolding(crate::specs::Proving::too_big_line))]
 pub fn print_too_big<S: Sink>(name: &str, number: u64, out: &mut S) -> Put

@@ -14,19 +14,20 @@ use file_port::{Put, Sink};
 use pcc_gate::Refusal;
 use proof_container::{Flaw, Head};
 
-/// The most bytes of what is said of a bad word: two numbers, a kind and two blanks.
+/// The maximal length in bytes of the text about a bad word: two numbers, a kind and two blanks.
 const BAD_WORD: usize = 42;
 
-/// The most bytes of what is said of a container that is malformed.
+/// The maximal length in bytes of the text about a container that is malformed.
 const MALFORMED: usize = 32;
 
-/// The most bytes that name a policy: two digits for each byte of a digest.
+/// The maximal length in bytes of the text that names a policy: two digits for each byte of a
+/// digest.
 const HEAD: usize = 64;
 
-/// Room for a refusal's text, in bytes.
+/// The maximal length in bytes of a refusal's text.
 pub const REFUSAL: usize = 86;
 
-/// Adds a word that is no instruction: its index, the kind of fault, and the word.
+/// Appends a word that isn't an instruction: its index, the kind of fault, and the word.
 fn push_bad_word(line: &mut Line, index: u32, word: u32, bad: BadWord)
     requires { array_vec_len line.old + BAD_WORD ≤ LINE }
     ensures items { line.new.items ≡ line.old.items ++ bad_word_text index word bad }
@@ -58,7 +59,7 @@ fn push_code_flaw(line: &mut Line, flaw: CodeFlaw)
     }
 }
 
-/// Adds where bytes are no container, and what is wrong there.
+/// Appends the offset at which bytes aren't a container, and what is wrong there.
 fn push_malformed(line: &mut Line, offset: u64, flaw: Flaw)
     requires { array_vec_len line.old + MALFORMED ≤ LINE }
     ensures items { line.new.items ≡ line.old.items ++ malformed_text offset flaw }
@@ -81,7 +82,7 @@ fn push_head(line: &mut Line, head: Head)
     }
 }
 
-/// Adds a text and a number behind it.
+/// Appends a text and a number after it.
 fn push_numbered(line: &mut Line, text: &str, number: u32)
     requires { array_vec_len line.old + length text.now + DIGITS ≤ LINE }
     ensures items { line.new.items ≡ line.old.items ++ (text.now ++ decimal number) }
@@ -91,7 +92,7 @@ fn push_numbered(line: &mut Line, text: &str, number: u32)
     push_decimal(line, u64::from(number));
 }
 
-/// Adds why a container is refused.
+/// Appends why a container is refused.
 pub fn push_refusal(line: &mut Line, refusal: Refusal)
     requires { array_vec_len line.old + REFUSAL ≤ LINE }
     ensures items { line.new.items ≡ line.old.items ++ refusal_text refusal }

@@ -1,4 +1,4 @@
-//! Result lines: what each packet comes to.
+//! Result lines: the result of each packet.
 
 ghost use Rattle.std.specs.Prelude.{◌≡◌, ◌+◌, ◌^◌, ◌≤◌, ◌<◌, ◌++◌, length};
 ghost use Rattle.arrayvec.specs.ArrayVec.{array_vec_len};
@@ -13,10 +13,10 @@ use file_port::{Put, Sink};
 use packet_store::{PacketIter, PacketResult, PacketRunner};
 use policy_set::PolicyKind;
 
-/// The most bytes of the kind of an access.
+/// The maximal length in bytes of the kind of an access.
 const KIND: usize = 7;
 
-/// The most bytes of a result without its number: those of a blocked access.
+/// The maximal length in bytes of a result without its number, which a blocked access has.
 pub const RESULT: usize = 51;
 
 /// Adds the kind of an access.
@@ -31,7 +31,7 @@ fn push_kind(line: &mut Line, kind: Kind)
     }
 }
 
-/// Adds the number of a return and, where the policy's kind has a region, its sum.
+/// Appends the number that a return gives and, if the policy's kind has a region, the region's sum.
 fn push_returned(line: &mut Line, kind: Option<PolicyKind>, word: u64, sum: u64)
     requires { array_vec_len line.old + RESULT ≤ LINE }
     ensures items { line.new.items ≡ line.old.items ++ returned_text kind word sum }
@@ -59,7 +59,7 @@ fn push_blocked(line: &mut Line, index: u32, kind: Kind, addr: u64)
     push_hex(line, 16, addr);
 }
 
-/// Adds how a run ended.
+/// Appends how a run ended.
 pub fn push_outcome(line: &mut Line, kind: Option<PolicyKind>, outcome: Outcome, sum: u64)
     requires { array_vec_len line.old + RESULT ≤ LINE }
     ensures items { line.new.items ≡ line.old.items ++ outcome_text kind outcome sum }
@@ -76,7 +76,7 @@ pub fn push_outcome(line: &mut Line, kind: Option<PolicyKind>, outcome: Outcome,
     }
 }
 
-/// Adds what a packet came to.
+/// Appends the result of a packet.
 fn push_result(line: &mut Line, kind: Option<PolicyKind>, end: PacketResult)
     requires { array_vec_len line.old + RESULT ≤ LINE }
     ensures items { line.new.items ≡ line.old.items ++ result_text kind end }
@@ -88,7 +88,7 @@ fn push_result(line: &mut Line, kind: Option<PolicyKind>, end: PacketResult)
     }
 }
 
-/// Prints what the packet of a number came to, as one piece.
+/// Prints the result of packet `number`, as one piece.
 #[tactic(auto, unfolding(crate::specs::Results::result_line))]
 pub fn print_result<S: Sink>(
     kind: Option<PolicyKind>,
@@ -107,8 +107,8 @@ pub fn print_result<S: Sink>(
 }
 
 /// Runs the packets in order and prints the result line of each, numbered from 0, before the next
-/// is run; stops at the first put that fails. `kind` is that of the policy, and says whether lines
-/// show the sum of a region.
+/// is run; stops at the first write that fails. `kind` is the kind of the policy, and says whether
+/// lines show the sum of a region.
 pub fn print_results<R: PacketRunner, S: Sink>(
     kind: Option<PolicyKind>,
     runner: &mut R,

@@ -8,7 +8,7 @@ use crate::line::{Line, push_decimal, push_text};
 use arrayvec::ArrayVec;
 use file_port::{Put, Sink};
 
-/// The most bytes of the name of what is wrong with a line of a script.
+/// The maximal length in bytes of the name of what is wrong with a line of a script.
 pub const MAX_SCRIPT_KIND: usize = 5;
 
 /// Prints which line of a script is wrong, and the name of what is wrong with it, of at most

@@ -1,4 +1,4 @@
-//! Lines of a source, and what is written of it.
+//! Lines about a source, and about the container written from it.
 
 ghost use Rattle.std.specs.Prelude.{◌≤◌, length};
 ghost use Rattle.file_port.specs.Sink.{Puts};
@@ -8,11 +8,11 @@ use crate::line::{Line, push_decimal, push_text};
 use arrayvec::ArrayVec;
 use file_port::{Put, Sink};
 
-/// The most bytes of the name of what is wrong with a line of a source.
+/// The maximal length in bytes of the name of what is wrong with a line of a source.
 pub const MAX_SOURCE_KIND: usize = 16;
 
-/// Prints which line of a source is wrong, and the name of what is wrong with it, of at most `MAX_SOURCE_KIND`
-/// bytes, as one piece.
+/// Prints which line of a source is wrong, and the name of what is wrong with it, of at most
+/// `MAX_SOURCE_KIND` bytes, as one piece.
 #[tactic(auto, unfolding(crate::specs::Sources::source_fault_line))]
 pub fn print_source_fault<S: Sink>(number: u32, kind: &str, out: &mut S) -> Put
     requires { length kind.now ≤ MAX_SOURCE_KIND }

@@ -12,10 +12,10 @@ use pcc_lines::{
     print_agent_refusal, print_agent_short, print_agent_too_long, print_agent_unknown_policy,
 };
 
-/// Why an agent of a host isn't loaded; each has a line of the agent.
+/// Why an agent of a host isn't loaded; each reason has a line of the agent.
 #[derive(Clone, Copy)]
 pub enum AgentStop {
-    /// No policy has the name.
+    /// No policy has the name given.
     UnknownPolicy,
     /// The container's file is longer than a file may be.
     ContainerTooLong,
@@ -27,12 +27,12 @@ pub enum AgentStop {
     BadPackets(PacketFault),
     /// The packet file has no packet.
     NoPacket,
-    /// The first packet is short.
+    /// The first packet is too short for the policy.
     Short,
 }
 
 impl AgentStop {
-    /// Prints its line.
+    /// Prints the line of the agent that says why.
     pub fn print<S: Sink>(self, agent: u32, out: &mut S) -> Put
         ensures { Puts (agent_line agent (agent_text self))
             (S.state out.old) (S.state out.new) result }

@@ -1,4 +1,4 @@
-//! Stages that read a container: its bytes, what it holds, and its code for a policy.
+//! Stages that read a container: its bytes, its contents, and its code for a policy.
 
 ghost use Rattle.std.specs.Prelude.{IfOk};
 ghost use Rattle.proof_container.specs.Views.{contents_of};
@@ -15,7 +15,7 @@ use policy_set::Policy;
 use proof_container::{Container, Malformed, profile_of, read};
 use std::alloc::Global;
 
-/// The bytes of the container's file of the name.
+/// Reads the bytes of the container file with this name.
 pub fn container_bytes_of<'a, F: Files>(
     alloc: Global,
     name: &'a str,
@@ -27,7 +27,7 @@ pub fn container_bytes_of<'a, F: Files>(
     bytes_of(alloc, name, MAX_FILE, RefusedLine::ContainerTooLong, files)
 }
 
-/// The container that the bytes are, where it is for the policy.
+/// Parses the bytes as a container, and returns it if it is for the policy.
 #[tactic(auto, unfolding(crate::specs::Stages::Containers::container_in))]
 pub fn container_in<'a, 'b>(
     alloc: Global,
@@ -53,7 +53,7 @@ pub fn container_in<'a, 'b>(
     }
 }
 
-/// The code of the container that the bytes are, where it is for the policy.
+/// Returns the code of the container in the bytes if it is for the policy.
 fn code_in<'a>(alloc: Global, policy: &Policy, bytes: &[u8]) -> Result<Code, Stop<'a>>
     ensures { GivesPure (λ code. code) (containers.code_in policy.now bytes.now) result }
 {
@@ -71,7 +71,8 @@ fn code_in<'a>(alloc: Global, policy: &Policy, bytes: &[u8]) -> Result<Code, Sto
     }
 }
 
-/// The code of the container in the file of the name, where it is for the policy.
+/// Reads the container file with this name, and returns its code if the container is for the
+/// policy.
 pub fn code_of<'a, F: Files>(
     alloc: Global,
     policy: &Policy,

@@ -1,4 +1,4 @@
-//! The bytes of a file.
+//! Stages that read the bytes of a file.
 
 ghost use Rattle.std.specs.Prelude.{◌≤◌, ◌<◌, ℕ, length, slice_index, IfOk};
 ghost use Rattle.pcc_exit.specs.Stages.{reads, gives};
@@ -11,20 +11,21 @@ use crate::stops::Stop;
 use file_port::{Files, Got};
 use std::alloc::Global;
 
-/// The most bytes of a container and of a packet file.
+/// The maximal length in bytes of a container and of a packet file.
 pub const MAX_FILE: u32 = 4_194_304;
 
-/// The most bytes that are read of a policy's file; none that spells a policy is longer than 8,196.
+/// The maximal number of bytes that are read of a policy's file; no file that holds a policy is
+/// longer than 8,196.
 pub const MAX_POLICY_FILE: u32 = 65_536;
 
-/// Opens the range of bytes for the prover.
+/// Tells Rattle that each byte is below 256; does nothing when it runs.
 pub fn octets(bytes: &[u8])
     ensures { (i : ℕ) → slice_index bytes.now i < 256 }
 {
     let _ = bytes;
 }
 
-/// The bytes of the file of the name; `too_long` where it has more than `max`.
+/// Reads the bytes of the file with this name; stops with `too_long` if it has more than `max`.
 pub fn bytes_of<'a, F: Files>(
     alloc: Global,
     name: &'a str,

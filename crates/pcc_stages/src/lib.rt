@@ -1,11 +1,10 @@
-//! What the programs over containers share: stages that find a policy and read a file, a container
-//! or packets, and what ends a command there.
+//! Steps that commands share: finding a policy, reading containers and packets, and early exits.
 //!
-//! A stage answers its value or a `Stop`, which is a line and a status; a `Stop` that refuses is a
-//! `RefusedLine`. What each stage comes to stands in `specs/Stages` under its name, the lines of
-//! stops in `specs/Stops`, and what it means that code answers by a stage (`Gives`, `GivesPure`) in
-//! `specs/Answers`. How a command ends whose stages are these is `Decides` of `specs/Decisions`,
-//! over whatever a program reports that is done.
+//! A stage returns its value or a `Stop`, which has a line and an exit status; a `Stop` that
+//! refuses is a `RefusedLine`. `specs/Stages` defines the result of each stage under its name,
+//! `specs/Stops` the lines of stops, and `specs/Answers` what it means that a function returns what
+//! a stage gives (`Gives`, `GivesPure`). `Decides` of `specs/Decisions` says how a command made of
+//! such stages ends, over whatever a program reports that it has done.
 #![tactic(auto)]
 
 mod agent_stop;

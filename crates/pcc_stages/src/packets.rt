@@ -20,7 +20,7 @@ fn packets_in<'a>(bytes: Vec<u8>) -> Result<PacketFile, Stop<'a>>
     }
 }
 
-/// The packets in the file of the name.
+/// Reads the packets in the file with this name.
 pub fn packets_of<'a, F: Files>(
     alloc: Global,
     name: &'a str,

@@ -1,4 +1,4 @@
-//! Stages that find the policy that a word tells.
+//! Stages that find the policy that a word names.
 
 ghost use Rattle.pcc_words.specs.Commands.{word_view};
 ghost use Rattle.pcc_stages.specs.Stages.Common as common;
@@ -14,7 +14,7 @@ use pcc_words::PolicyWord;
 use policy_set::{Policy, PolicyFault, by_name, read_policy};
 use std::alloc::Global;
 
-/// The policy of the name.
+/// Returns the built-in policy with this name; stops if there is none.
 pub fn policy_named<'a>(alloc: Global, name: &str) -> Result<Policy, Stop<'a>>
     ensures { GivesPure (λ policy. policy) (common.policy_named name.now) result }
 {
@@ -62,7 +62,7 @@ fn policy_from<'a, F: Files>(
     policy_in(alloc, &bytes)
 }
 
-/// The policy that the word tells: a built-in one by its name, or the one that a file spells.
+/// Returns the policy that the word names: a built-in policy by its name, or the policy in a file.
 pub fn policy_told<'a, F: Files>(
     alloc: Global,
     word: PolicyWord<'a>,

@@ -1,4 +1,4 @@
-//! The lines that refuse what was asked for.
+//! The lines that say why something is refused.
 
 ghost use Rattle.file_port.specs.Sink.{Puts};
 ghost use Rattle.pcc_stages.specs.Stops.{refused_text};
@@ -21,37 +21,36 @@ use pcc_lines::{
     print_unknown_policy,
 };
 
-/// A line that says why what was asked for is refused, with its facts.
+/// A line that says why what was asked for is refused, with the facts that it prints.
 #[derive(Clone, Copy)]
 pub enum RefusedLine {
-    /// No policy has the name.
+    /// No policy has the name given.
     UnknownPolicy,
     /// The policy's file is longer than what is read of one.
     PolicyTooLong,
-    /// The policy's file has so many lines in place of two.
+    /// The policy's file has so many lines instead of two.
     PolicyLines(u64),
-    /// The line of this number, from 1, is the first of the policy's file that is too long.
+    /// The first line of the policy's file that is too long, numbered from 1.
     PolicyLength(u32),
-    /// The line of this number, from 1, is the first of the policy's file that spells no formula:
-    /// the position of the first token that is wrong, and what is wrong there.
+    /// The first line of the policy's file that isn't a formula, numbered from 1: the position of
+    /// the first token that is wrong, and what is wrong there.
     PolicyForm(u32, u64, TextFlaw),
     /// The container is refused.
     Container(Refusal),
     /// The container's file is longer than a file may be.
     ContainerTooLong,
-    /// The first part of the container's condition that isn't easy: 0 is the start's, k + 1 that of
-    /// invariant k.
+    /// The first part of the container's verification condition that isn't easy: 0 is the part of
+    /// the start, k + 1 the part of invariant k.
     NotEasy(u32),
-    /// The proof, or the container with it, is past a limit: the first, and its measure.
+    /// The proof, or the container with it, is past a limit: the first such limit, and its measure.
     TooBig(Measure, u64),
-    /// The container that is to be upgraded is of a later version.
+    /// The container to be upgraded is of a later version already.
     Already,
     /// The source's file is longer than a source may be.
     SourceTooLong,
-    /// The line of this number, from 1, is the first that is wrong; 0 where there is no
-    /// instruction.
+    /// The first line of the source that is wrong, numbered from 1; 0 if there is no instruction.
     BadLine(u32, LineFlaw),
-    /// The source's lines are right, and give no code.
+    /// The source's lines are right, but don't give code.
     BadSource(AsmFlaw),
     /// The packet file is longer than a file may be.
     PacketsTooLong,
@@ -59,19 +58,18 @@ pub enum RefusedLine {
     BadPackets(PacketFault),
     /// The program's file is longer than what is read of one.
     ProgramTooLong,
-    /// The bytes are no program of classic BPF: the first thing that is wrong with them.
+    /// The bytes aren't a program of classic BPF: the first thing that is wrong with them.
     BadProgram(BpfFlaw),
     /// The script's file is longer than a script may be.
     ScriptTooLong,
-    /// The line of this number, from 1, is the first of the script that is wrong; 0 where none
-    /// loads an agent.
+    /// The first line of the script that is wrong, numbered from 1; 0 if no line loads an agent.
     BadScript(u32, ScriptFlaw),
-    /// The agent of this number isn't loaded.
+    /// The agent with this number isn't loaded.
     OfAgent(u32, AgentStop),
 }
 
 impl RefusedLine {
-    /// Prints it.
+    /// Prints the line.
     pub fn print<S: Sink>(self, out: &mut S) -> Put
         ensures { Puts (refused_text self) (S.state out.old) (S.state out.new) result }
     {

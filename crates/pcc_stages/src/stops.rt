@@ -12,26 +12,26 @@ use pcc_lines::{print_missing, print_read_fault, print_usage, print_write_fault}
 /// What ends a command before it is done.
 #[derive(Drop)]
 pub enum Stop<'a> {
-    /// The arguments are no command.
+    /// The arguments aren't a command.
     Usage,
     /// What was asked for is refused.
     Refused(RefusedLine),
-    /// There is no file of this name, which a script has.
+    /// There is no file with this name, which comes from a script.
     MissingOfScript(String),
-    /// The read of the file of this name, which a script has, failed.
+    /// The read of the file with this name, which comes from a script, failed.
     ReadFaultOfScript(String),
-    /// There is no file of this name.
+    /// There is no file with this name.
     Missing(&'a str),
-    /// The read of the file of this name failed.
+    /// The read of the file with this name failed.
     ReadFault(&'a str),
-    /// The write of the file of this name failed.
+    /// The write of the file with this name failed.
     WriteFault(&'a str),
     /// There was no memory.
     Memory,
 }
 
 impl Stop<'_> {
-    /// The status of the run, where its line is put.
+    /// Returns the exit status of the run if its line is written.
     pub fn status(&self) -> u8
         ensures { result ≡ (stop_exit self.now).status }
     {
@@ -47,7 +47,7 @@ impl Stop<'_> {
         }
     }
 
-    /// Prints its line. Want of memory has none.
+    /// Prints the line of the stop. Out of memory has none.
     pub fn print<S: Sink>(&self, out: &mut S) -> Put
         ensures { Puts (stop_exit self.now).text (S.state out.old) (S.state out.new) result }
     {
@@ -64,7 +64,8 @@ impl Stop<'_> {
     }
 }
 
-/// The status of a run, after its puts: a failed put has the last word.
+/// Returns the exit status of a run after its writes to the output: a failed write overrides
+/// `status`.
 pub fn status_after(status: u8, put: Put) -> u8
     ensures { result ≡ status_after status put }
 {

@@ -1,4 +1,4 @@
-//! The command line as clap's builders make it, a function for each shape.
+//! The command line as calls of clap's builders make it, a function for each shape.
 ghost use Rattle.std.specs.Prelude.{◌≡◌, IfOk, false};
 ghost use Rattle.clap.specs.Words.{app_of, rule_of};
 ghost use Rattle.clap.specs.declared.Command.TheViews.{out-Command as fields_of};
@@ -15,7 +15,7 @@ use crate::limits::{MAX_BOUND, MAX_DEMO, MAX_STEPS};
 use clap::{Arg, ArgAction, Command, value_parser};
 use std::alloc::{AllocError, Global};
 
-/// An argument that has to be there.
+/// Returns a required positional argument.
 pub fn positional<'a>(alloc: Global, id: &'a str) -> Arg<'a>
     ensures rule { rule_of result ≡ positional_rule id.entry.now }
     ensures local { result.global ≡ false }
@@ -23,7 +23,7 @@ pub fn positional<'a>(alloc: Global, id: &'a str) -> Arg<'a>
     Arg::new(alloc, id).required(true)
 }
 
-/// `--steps N`.
+/// Returns the option `--steps N`.
 pub fn steps<'a>(alloc: Global) -> Arg<'a>
     ensures rule { rule_of result ≡ steps_rule }
     ensures local { result.global ≡ false }
@@ -34,7 +34,7 @@ pub fn steps<'a>(alloc: Global) -> Arg<'a>
         .default_value("1000000")
 }
 
-/// `--v2`
+/// Returns the flag `--v2`.
 pub fn version_flag<'a>(alloc: Global) -> Arg<'a>
     ensures rule { rule_of result ≡ version_rule }
     ensures local { result.global ≡ false }
@@ -42,7 +42,7 @@ pub fn version_flag<'a>(alloc: Global) -> Arg<'a>
     Arg::new(alloc, "v2").long("v2").action(ArgAction::SetTrue)
 }
 
-/// `--bound N`
+/// Returns the option `--bound N`.
 pub fn bound<'a>(alloc: Global) -> Arg<'a>
     ensures rule { rule_of result ≡ bound_rule }
     ensures local { result.global ≡ false }
@@ -69,7 +69,9 @@ fn policy_command<'a>(alloc: Global, name: &'a str) -> Result<Command<'a>, Alloc
     Command::new(alloc, name).arg(positional(alloc, "POLICY"))
 }
 
-/// `NAME POLICY FILE`
+/// Returns the subcommand `NAME POLICY FILE`.
+///
+/// Errors: out of memory.
 pub fn file_command<'a>(alloc: Global, name: &'a str) -> Result<Command<'a>, AllocError>
     ensures app { IfOk result (λ c. app_of c ≡ file_app name.entry.now) }
     ensures local { IfOk result (λ c. (fields_of c).has_globals ≡ false) }
@@ -133,7 +135,9 @@ fn paths_command<'a>(alloc: Global, name: &'a str) -> Result<Command<'a>, AllocE
     path_command(alloc, name)?.arg(positional(alloc, "OUT"))
 }
 
-/// `NAME POLICY FILE PACKETS`
+/// Returns the subcommand `NAME POLICY FILE PACKETS`.
+///
+/// Errors: out of memory.
 pub fn packets_command<'a>(alloc: Global, name: &'a str) -> Result<Command<'a>, AllocError>
     ensures app { IfOk result (λ c. app_of c ≡ packets_app name.entry.now) }
     ensures local { IfOk result (λ c. (fields_of c).has_globals ≡ false) }
@@ -159,7 +163,7 @@ fn asm_command<'a>(alloc: Global) -> Result<Command<'a>, AllocError>
         .subcommand(added)
 }
 
-/// The same with `prove`.
+/// The command line with `asm` and `prove`.
 fn copies_command<'a>(alloc: Global) -> Result<Command<'a>, AllocError>
     ensures app { IfOk result (λ c. app_of c ≡ copies_app) }
 {
@@ -175,7 +179,7 @@ fn file_commands<'a>(alloc: Global) -> Result<Command<'a>, AllocError>
     copies_command(alloc)?.subcommand(added)
 }
 
-/// The same with `run`.
+/// The command line with the commands that run no code, and `run`.
 fn runs_command<'a>(alloc: Global) -> Result<Command<'a>, AllocError>
     ensures app { IfOk result (λ c. app_of c ≡ runs_app) }
 {
@@ -191,14 +195,14 @@ fn named_files_command<'a>(alloc: Global) -> Result<Command<'a>, AllocError>
     runs_command(alloc)?.subcommand(added)
 }
 
-/// The same with `demo`.
+/// The command line with the commands over files, and `demo`.
 fn demos_command<'a>(alloc: Global) -> Result<Command<'a>, AllocError>
     ensures app { IfOk result (λ c. app_of c ≡ demos_app) }
 {
     named_files_command(alloc)?.subcommand(number_command(alloc, "demo")?)
 }
 
-/// The same with `upgrade`.
+/// The command line with the commands over files, `demo` and `upgrade`.
 fn upgrades_command<'a>(alloc: Global) -> Result<Command<'a>, AllocError>
     ensures app { IfOk result (λ c. app_of c ≡ upgrades_app) }
 {
@@ -206,7 +210,7 @@ fn upgrades_command<'a>(alloc: Global) -> Result<Command<'a>, AllocError>
     demos_command(alloc)?.subcommand(added)
 }
 
-/// The same with `host`.
+/// The command line with all subcommands except `bpf`.
 fn hosts_command<'a>(alloc: Global) -> Result<Command<'a>, AllocError>
     ensures app { IfOk result (λ c. app_of c ≡ hosts_app) }
 {
@@ -214,7 +218,9 @@ fn hosts_command<'a>(alloc: Global) -> Result<Command<'a>, AllocError>
     upgrades_command(alloc)?.subcommand(added)
 }
 
-/// The whole command line.
+/// Builds the whole command line of pcc.
+///
+/// Errors: out of memory.
 pub fn pcc_command<'a>(alloc: Global) -> Result<Command<'a>, AllocError>
     ensures app { IfOk result (λ c. app_of c ≡ pcc_app) }
 {

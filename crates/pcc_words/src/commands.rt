@@ -1,11 +1,11 @@
-//! The commands of pcc, with their values.
+//! The commands of pcc, with their arguments.
 
-/// How a word tells a policy.
+/// A policy as a command-line word names it.
 #[derive(Clone, Copy, Debug, PartialEq, Eq)]
 pub enum PolicyWord<'a> {
-    /// The name of a built-in one, which there need not be.
+    /// The name of a built-in policy; there may be none with this name.
     Named(&'a str),
-    /// The name of a file that is to spell one, which stands behind `@`.
+    /// The name of a policy's file, which follows `@`.
     FromFile(&'a str),
 }
 
@@ -16,38 +16,38 @@ pub struct AsmArgs<'a> {
     pub policy: &'a str,
     /// The name of the source's file.
     pub input: &'a str,
-    /// The name of the file that is written, which may be the same.
+    /// The name of the file that is written, which may be the source's file.
     pub output: &'a str,
-    /// The container's version: 3 where it has a bound, else 2 where that is asked for, else 1.
+    /// The container's version: 3 if it has a step bound, else 2 if `--v2` is given, else 1.
     pub version: u32,
-    /// The container's bound on the steps, from 1 to `MAX_BOUND`, if it has one.
+    /// The container's step bound, from 1 to `MAX_BOUND`, if it has one.
     pub bound: Option<u32>,
 }
 
-/// The arguments of a command that makes a file of another: `POLICY IN OUT`.
+/// The arguments of a command that makes one file from another: `POLICY IN OUT`.
 #[derive(Clone, Copy, Debug, PartialEq, Eq)]
 pub struct CopyArgs<'a> {
     /// The policy's name.
     pub policy: &'a str,
     /// The name of the file that is read.
     pub input: &'a str,
-    /// The name of the file that is written, which may be the same.
+    /// The name of the file that is written, which may be the file that is read.
     pub output: &'a str,
 }
 
-/// The arguments of a command that makes a file of another under no named policy: `IN OUT`.
+/// The arguments of a command that makes one file from another and names no policy: `IN OUT`.
 #[derive(Clone, Copy, Debug, PartialEq, Eq)]
 pub struct PathArgs<'a> {
     /// The name of the file that is read.
     pub input: &'a str,
-    /// The name of the file that is written, which may be the same.
+    /// The name of the file that is written, which may be the file that is read.
     pub output: &'a str,
 }
 
 /// The arguments of `check`: `POLICY FILE`.
 #[derive(Clone, Copy, Debug, PartialEq, Eq)]
 pub struct CheckArgs<'a> {
-    /// The policy, by its name or by its file's.
+    /// The policy, by its name or by its file's name.
     pub policy: PolicyWord<'a>,
     /// The name of the container's file.
     pub file: &'a str,
@@ -62,28 +62,29 @@ pub struct RunArgs<'a> {
     pub file: &'a str,
     /// The name of the packet file.
     pub packets: &'a str,
-    /// The most steps for a packet.
+    /// The maximal number of steps for each packet.
     pub steps: u64,
 }
 
-/// A command with its values.
+/// A command with its arguments.
 #[derive(Clone, Copy, Debug, PartialEq, Eq)]
 pub enum Command<'a> {
     /// Assembles a source into a container without a proof.
     Asm(AsmArgs<'a>),
-    /// Makes of a container one with a proof.
+    /// Adds a proof to a container.
     Prove(CopyArgs<'a>),
-    /// Judges a container.
+    /// Checks a container.
     Check(CheckArgs<'a>),
     /// Runs accepted code on packets, by the host that tests no access.
     Run(RunArgs<'a>),
-    /// Runs the testing machine on packets.
+    /// Runs code on packets, by the machine that tests each access.
     Ref(RunArgs<'a>),
-    /// Makes a source of so many loads, proves it, judges it and runs it.
+    /// Makes a source with so many loads, proves, checks and runs it.
     Demo(u64),
-    /// Makes of a container of version 1 one of version 2.
+    /// Makes a container of version 2 from one of version 1.
     Upgrade(PathArgs<'a>),
-    /// Runs the agents that the script of this name loads, by turns, by the host that tests no access.
+    /// Runs the agents that the script in the file of this name loads, by turns, by the host that
+    /// tests no access.
     Host(&'a str),
     /// Compiles a program of classic BPF to an accepted container.
     Bpf(PathArgs<'a>),

@@ -1,11 +1,11 @@
-//! The command line of pcc, read by `clap`.
+//! Command-line parser of pcc, over `clap`.
 //!
-//! The layer above calls `read_arguments` and uses its one exact clause: the command that is
-//! answered is the one that the arguments are by `command_of`, of `specs/Invocations`. There the
-//! arguments of a command are given by clap's own definitions at the literal command line. An
-//! `Invocation` is a command with its values, without where they lie in memory; `invocation_of`
-//! and `IsInRange` stand in `specs/Commands`. Arguments that the program that shows has too are
-//! made by the same builders and read by the same functions.
+//! `read_arguments` returns a command, and its clause `exact` says which: the command that the
+//! arguments are by `command_of`, of `specs/Invocations`. There clap's own definitions at the
+//! literal command line give the arguments of a command. An `Invocation` is a command with its
+//! values, without where they lie in memory; `invocation_of` and `IsInRange` are defined in
+//! `specs/Commands`. Arguments that pcc_view shares are made by the builders of this crate and read
+//! by its functions.
 #![tactic(auto)]
 
 mod builders;
@@ -28,10 +28,10 @@ pub use values::{
     bound_in_range, number_given, optional_number, policy_told, text_given, version_given,
 };
 
-/// The command that the arguments `words` are, if they are one. The program's name is not among
-/// them. A call for help is no command.
+/// Parses the arguments `words` as a command, and returns it, or None if they aren't one. The
+/// program's name isn't among the arguments. A call for help isn't a command.
 ///
-/// Errors: the parse found no memory.
+/// Errors: the parse ran out of memory.
 pub fn read_arguments<'a>(
     alloc: Global,
     words: &'a [String],

@@ -1,10 +1,10 @@
 //! The largest numbers that a command line may have.
 
-/// The most steps for a packet that may be asked for.
+/// The maximal number of steps for each packet.
 pub const MAX_STEPS: u64 = 1_000_000_000;
 
-/// The greatest bound on the steps that a container may have.
+/// The maximal step bound of a container.
 pub const MAX_BOUND: u64 = 1_000_000_000;
 
-/// The most loads of `demo`.
+/// The maximal number of loads of `demo`.
 pub const MAX_DEMO: u64 = 400;

@@ -1,4 +1,4 @@
-//! The values of a command, from the matches of a parse.
+//! The arguments of a command, from the matches of a parse.
 ghost use Rattle.std.specs.Prelude.{◌≡◌, true, IfSome, Some, None, codes, if◌then◌else◌, option_and_then, option_map};
 ghost use Rattle.clap.specs.Lexer.{strip_byte};
 ghost use Rattle.clap.specs.Words.{found_of, rows_of, subcommand_rows_of};
@@ -13,7 +13,7 @@ use crate::commands::{AsmArgs, CheckArgs, Command, CopyArgs, PathArgs, PolicyWor
 use crate::limits::{MAX_BOUND, MAX_DEMO, MAX_STEPS};
 use clap::ArgMatches;
 
-/// The number of an optional argument, if it has one.
+/// Returns the number of an optional argument, or None if it isn't given.
 pub fn optional_number(matches: &ArgMatches<'_>, id: &str) -> Option<u64>
     ensures { result ≡ optional_number id.now (rows_of (found_of matches.now)) }
 {
@@ -24,7 +24,7 @@ pub fn optional_number(matches: &ArgMatches<'_>, id: &str) -> Option<u64>
     }
 }
 
-/// The number of an optional argument, or 0 where it has none.
+/// Returns the number of an optional argument, or 0 if it isn't given.
 pub fn number_given(matches: &ArgMatches<'_>, id: &str) -> u64
     ensures { result ≡ number_at id.now (rows_of (found_of matches.now)) }
 {
@@ -34,7 +34,7 @@ pub fn number_given(matches: &ArgMatches<'_>, id: &str) -> u64
     }
 }
 
-/// The text of a required argument.
+/// Returns the text of a required argument.
 pub fn text_given<'a>(matches: &ArgMatches<'a>, id: &str) -> &'a str
     ensures { result.now ≡ value_of id.now (rows_of (found_of matches.now)) }
 {
@@ -51,7 +51,7 @@ fn is_given(matches: &ArgMatches<'_>, id: &str) -> bool
     text_given(matches, id) == "true"
 }
 
-/// The bound, where there is none or it is in its range.
+/// Returns the step bound if it is in its range or not given, else None.
 pub fn bound_in_range(bound: Option<u64>) -> Option<Option<u32>>
     ensures exact { result ≡ (if is_bound bound then Some bound else None) }
     ensures in_range { IfSome result (λ b. is_bound b ≡ true) }
@@ -68,7 +68,7 @@ pub fn bound_in_range(bound: Option<u64>) -> Option<Option<u32>>
     }
 }
 
-/// The version of the container that `asm` makes.
+/// Returns the version of the container that `asm` makes.
 pub fn version_given(matches: &ArgMatches<'_>, bound: Option<u32>) -> u32
     ensures { result ≡ version_at bound (rows_of (found_of matches.now)) }
 {
@@ -78,8 +78,8 @@ pub fn version_given(matches: &ArgMatches<'_>, bound: Option<u32>) -> u32
     }
 }
 
-/// The arguments of `asm`, where the bound is in its range. As of the number of steps (see
-/// `with_steps_in_range`), clap took no other.
+/// Returns the arguments of `asm` if the step bound is in its range; clap accepts no other, as with
+/// the number of steps (see `with_steps_in_range`).
 fn asm_args_given<'a>(matches: &ArgMatches<'a>) -> Option<AsmArgs<'a>>
     ensures exact { option_map asm_of result ≡ asm_invocation (rows_of (found_of matches.now)) }
     ensures in_range { IfSome result (λ args. IsVersionOf args.bound args.version) }
@@ -118,14 +118,14 @@ fn path_args_given<'a>(matches: &ArgMatches<'a>) -> PathArgs<'a>
     PathArgs { input, output }
 }
 
-/// What stands behind the `@` that a word begins with, if it does.
+/// Returns the text after the `@` that a word begins with, if it does.
 fn behind_at(word: &str) -> Option<&str>
     ensures { option_map (λ s. s.now) result ≡ strip_byte 64 word.now }
 {
     word.strip_prefix('@')
 }
 
-/// The word as a policy.
+/// Returns the policy that the word names.
 pub fn policy_told(word: &str) -> PolicyWord<'_>
     ensures { word_view result ≡ policy_word word.now }
 {
@@ -163,9 +163,9 @@ fn run_args_given<'a>(matches: &ArgMatches<'a>) -> RunArgs<'a>
     }
 }
 
-/// The arguments, where the number of steps is in its range. clap took no other. Its contract does
-/// not say so of the argument of a subcommand, so the range is tested here again: this refuses
-/// nothing that clap takes.
+/// Returns the arguments if the number of steps is in its range. clap accepts no other, but its
+/// contract doesn't say so for the argument of a subcommand. So the range is tested here again:
+/// this refuses nothing that clap accepts.
 fn with_steps_in_range<'a>(args: RunArgs<'a>) -> Option<RunArgs<'a>>
     ensures { result ≡ (if is_step_count args.entry.steps then Some args.entry else None) }
 {
@@ -176,7 +176,7 @@ fn with_steps_in_range<'a>(args: RunArgs<'a>) -> Option<RunArgs<'a>>
     }
 }
 
-/// The number of `demo`, where it is in its range; as for the steps, clap took no other.
+/// Returns the number of `demo` if it is in its range; clap accepts no other, as with the steps.
 fn demo_size_given(matches: &ArgMatches<'_>) -> Option<u64>
     ensures { let n = number_at (codes "N") (rows_of (found_of matches.now)) in
         result ≡ (if is_demo_size n then Some n else None) }
@@ -209,7 +209,7 @@ fn command_given<'a>(name: &str, matches: &ArgMatches<'a>) -> Option<Command<'a>
     }
 }
 
-/// The command of the subcommand that was found.
+/// Returns the command of the subcommand that the parse found, or None if it isn't one.
 pub fn command_found<'a>(matches: &ArgMatches<'a>) -> Option<Command<'a>>
     ensures exact { option_map invocation_of result
         ≡ option_and_then invocation_of_subcommand (subcommand_rows_of matches.now) }

@@ -1,9 +1,9 @@
-//! What is printed of code with its invariants is assembled back into it.
+//! Theorems: code and invariants, printed as source, assemble back into the original.
 //!
-//! The layer above uses that the text of code with invariants (source_text) spells one source,
-//! whatever comments, hints and notes are printed beside them, and that this source is assembled
-//! (pcc_asm) into the same code, and for a policy into what a container with that code and those
-//! invariants holds (`laws`). Which contents hold code and invariants stands in `specs/Containers`.
+//! The text of code with invariants (source_text) parses as one source, whatever comments, hints
+//! and notes are printed with them. That source assembles (pcc_asm) into the code, and for a policy
+//! into what a container with that code and those invariants holds (`laws`). `specs/Containers`
+//! says which contents hold code and invariants.
 #![tactic(auto)]
 
 mod theorems;

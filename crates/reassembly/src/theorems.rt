@@ -1,4 +1,4 @@
-//! What holds of the definitions, with nothing to run.
+//! Theorems about the definitions; nothing here runs.
 
 ghost use Rattle.std.specs.Prelude.{◌≡◌, ◌↔◌, ℕ, Bool, List, Option, is_some, Ok};
 ghost use Rattle.word_ops.specs.declared.Profile.{Profile};
@@ -16,12 +16,12 @@ ghost use Rattle.source_text.specs.Listing.{ExtrasView, code_text, code_source};
 ghost use Rattle.source_text.specs.Laws.{IsSpellableCode, AreSpellableExtras};
 ghost use Rattle.reassembly.specs.Containers.{HoldsCode, HasWrittenReturns, without_proofs};
 
-/// The text of code of a profile with its invariants spells one source, whatever comments, hints
-/// and notes are printed beside them. That source is assembled into the same code, and for a policy
-/// and a version, with a bound or without, into what a container with that code and those
-/// invariants holds; so, of a container that holds them, into what it holds but for its lemmas and
-/// its proof. Bytes that encode the code, each return with the hint that is written, are what such
-/// a container holds for it.
+/// States the theorems about printed code. The text of code of a profile with its invariants parses
+/// as exactly one source, whatever comments, hints and notes are printed with them. That source
+/// assembles into that code; and for a policy and a version, with a step bound or without, into
+/// what a container with that code and those invariants holds. So, for a container that holds them,
+/// it assembles into the contents without lemmas and proof. Bytes that encode the code, each return
+/// with the hint that the assembler writes, are the code bytes of such a container.
 pub fn laws()
     ensures source { (p : Profile) (left : Bool) (code : List Insn) (invs : List (ℕ × Form))
         (extras : ExtrasView) (s : Source) → IsSpellableCode p left code invs

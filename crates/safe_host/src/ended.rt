@@ -2,11 +2,11 @@
 
 use host_steps::Ended;
 
-/// How a host's run ended, and how many steps it made, a return among them.
+/// How a host's run ended, and how many steps it made (a return counts).
 #[derive(Clone, Copy, Debug, PartialEq, Eq)]
 pub struct Counted {
-    /// How it ended.
+    /// How the run ended.
     pub ended: Ended,
-    /// The steps.
+    /// The number of steps that the run made.
     pub steps: u64,
 }

@@ -18,10 +18,10 @@ use reference_machine::{ARENA, QUADWORDS, reach, refill};
 use std::alloc::{AllocError, Global};
 use std::marker::Model;
 
-/// Accepted code, its operations, registers, and an arena of 8,194 quadwords from address 65,536 on.
-/// It keeps no rights: while it is `live`, some rights fit it, under which the code accesses nothing
-/// that isn't allowed. From number `end` on all words of the arena are 0: nothing was put there, and
-/// these rights allow no store there.
+/// Accepted code with its predecoded operations, its registers, and an arena of 8,194 quadwords
+/// from address 65,536 on. A host holds no rights: while it is `live`, some rights fit it, under
+/// which the code accesses nothing that isn't allowed. From number `end` on all words of the arena
+/// are 0: nothing was written there, and these rights allow no store there.
 #[derive(Drop)]
 pub struct Host {
     pub(crate) accepted: Accepted,
@@ -53,8 +53,10 @@ impl Model for Host {
 }
 
 impl Host {
-    /// The host of the accepted code, with its operations made and the arena reserved. Nothing is
-    /// loaded, so it isn't live. Fails only for want of memory.
+    /// Creates a host of the accepted code: predecodes the code and reserves the arena. No packet
+    /// is loaded, so the host isn't live.
+    ///
+    /// Errors: out of memory.
     pub fn new(alloc: Global, accepted: Accepted) -> Result<Host, AllocError>
         ensures accepted { IfOk result (λ host. host.accepted ≡ accepted) }
         ensures live { IfOk result (λ host. host.live ≡ false) }
@@ -76,11 +78,12 @@ impl Host {
 }
 
 impl Host {
-    /// Begins anew at the start of the policy on `packet`, which has at most `MAX_PACKET` bytes:
-    /// its bytes stand in the arena, every other quadword is 0, and nothing of an earlier run is
-    /// left. The rights of the start then fit, with all steps of the bound left. Takes no memory.
+    /// Loads `packet`, of at most `MAX_PACKET` bytes, at the policy's start state, and returns
+    /// true. The arena then holds the packet's bytes, every other quadword is 0, and nothing of an
+    /// earlier run is left. The rights of the start then fit, with all steps of the bound left.
+    /// Takes no memory.
     ///
-    /// Answers false exactly where the packet is short; the host is then unchanged.
+    /// Returns false exactly if the packet is too short for the policy; the host is then unchanged.
     pub fn load(&mut self, packet: &[u8]) -> bool
         requires { length packet.now ≤ MAX_PACKET }
         ensures exact { Loads self.old (start_of self.old.accepted.policy packet.now)
@@ -100,11 +103,11 @@ impl Host {
         true
     }
 
-    /// Makes at most `budget` steps, a return among them, and answers how the run ended. No access
-    /// is tested: under all rights that fit, this is the run of the machine that tests each. Where
-    /// it is out of steps, they fit again, the budget fewer being left, and it may go on; after a
-    /// return it isn't live. Where steps are bounded, a budget of at least the bound ends by a
-    /// return.
+    /// Runs at most `budget` steps (a return counts), and returns how the run ended. Tests no
+    /// access: under all rights that fit, this is the run of the machine that tests each access.
+    /// After `OutOfSteps` the rights fit again, with `budget` fewer steps left, and `run` may be
+    /// called again; after a return the host isn't live. If steps are bounded, a budget of at least
+    /// the bound ends with a return.
     pub fn run(&mut self, budget: u64) -> Ended
         requires { self.old.live ≡ true }
         ensures under { IsRun self.old budget result self.new }
@@ -128,7 +131,8 @@ impl Host {
         ended
     }
 
-    /// Runs as `run` does, one step after the other, and counts them, a return among them.
+    /// Runs as `run` does, one step at a time, and returns how the run ended and how many steps it
+    /// made (a return counts).
     pub fn run_counted(&mut self, budget: u64) -> Counted
         requires { self.old.live ≡ true }
         ensures under { IsRun self.old budget result.ended self.new }
@@ -154,8 +158,8 @@ impl Host {
         }
     }
 
-    /// The sum of the region's quadwords, modulo 2^64; the region is at the arena's front. Takes no
-    /// memory.
+    /// Returns the sum of the region's quadwords, modulo 2^64; the region is at the start of the
+    /// arena. Takes no memory.
     pub fn sum(&self) -> u64
         ensures { result
             ≡ sum_of (map_of ARENA self.now.words) ARENA self.now.region % 2 ^ 64 }
@@ -167,17 +171,19 @@ impl Host {
         total
     }
 
-    /// What was accepted.
+    /// Returns the accepted code with its policy.
     pub fn accepted(&self) -> &Accepted
         ensures { result.now ≡ self.now.accepted }
     {
         &self.accepted
     }
 
-    /// What was accepted, the host being given up. All that a host has is named here: its code, also as
-    /// operations, the state of a run, how many words at the arena's front `load` has to clear, the
-    /// region's count and whether a run may go on. So it keeps no rights, and a field for them would have
-    /// to be written here first.
+    /// Returns the accepted code with its policy, and drops the rest of the host.
+    ///
+    /// The body names all fields of a host: the code, also as operations, the state of a run, how
+    /// many words at the start of the arena `load` has to clear, the region's count and whether a
+    /// run may go on. So a host holds no rights, and a field for them would have to be written here
+    /// first.
     pub fn into_accepted(self) -> Accepted
         ensures { result ≡ self.accepted }
     {
@@ -194,8 +200,8 @@ impl Host {
         accepted
     }
 
-    /// What holds of every host, with nothing to run: while it is live, some rights fit it
-    /// (`rights`); where its steps are bounded, rights fit only while some are left (`left`).
+    /// States the theorems about every host; nothing is run. While a host is live, some rights fit
+    /// it (`rights`); if its steps are bounded, rights fit only while some steps are left (`left`).
     pub fn laws(&self)
         ensures rights { self.now.live ≡ true → HasRights self.now }
         ensures left { FitWhileLeft self.now }

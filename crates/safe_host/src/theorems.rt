@@ -1,9 +1,9 @@
-//! What holds of the counts of steps, with nothing to run.
+//! Theorems about counts of steps; nothing here runs.
 
 ghost use Rattle.safe_host.specs.Counts.{StepsCount};
 
-/// The steps that a run makes are at most its budget, a budget of just these gives the same run, and
-/// they are the whole budget where the run is out of steps.
+/// States the theorems about counted runs: a run makes at most its budget of steps, a budget of
+/// just these steps gives an equal run, and a run that is out of steps has made its whole budget.
 pub fn count_laws()
     ensures { StepsCount }
 {}

@@ -48,7 +48,7 @@ fn push_word(alloc: Global, text: &mut String, insn: Insn) -> Result<(), AllocEr
     text.push_str(word.as_str())
 }
 
-/// The words of the block at an index, parted by semicolons.
+/// Returns the words of the block at an index, separated by semicolons.
 pub fn words_text(alloc: Global, code: &[Insn], index: usize) -> Result<String, AllocError> {
     let mut text = String::new(alloc);
     for insn in code.iter().skip(index.saturating_mul(BLOCK)).take(BLOCK) {

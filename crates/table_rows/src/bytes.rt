@@ -1,13 +1,13 @@
-//! Fields of lines, and words and bytes that texts spell.
+//! Parsing the fields of lines, and words and bytes in them.
 
 use std::alloc::{AllocError, Global};
 
-/// The field of a line behind so many tabs; no text where there are fewer.
+/// Returns the field of a line after so many tabs, or no text if there are fewer.
 pub fn field(line: &str, place: usize) -> &str {
     line.split('\t').nth(place).unwrap_or("")
 }
 
-/// The question of a line: what stands before ` =`.
+/// Returns the question of a line: the text before ` =`.
 pub fn question(line: &str) -> &str {
     match line.split_once(" =") {
         Some((question, _)) => question,
@@ -15,7 +15,7 @@ pub fn question(line: &str) -> &str {
     }
 }
 
-/// The answer that a line wants: what stands behind ` =`.
+/// Returns the expected answer of a line: the text after ` =`.
 pub fn wanted(line: &str) -> &str {
     match line.split_once(" =") {
         Some((_, want)) => want.trim(),
@@ -23,12 +23,12 @@ pub fn wanted(line: &str) -> &str {
     }
 }
 
-/// The word of eight hexadecimal digits; None where the text is none.
+/// Parses a word of eight hexadecimal digits; None if the text isn't one.
 pub fn word_of(text: &str) -> Option<u32> {
     u32::from_str_radix(text, 16).ok()
 }
 
-/// Bytes as text.
+/// Returns bytes as text.
 pub fn text_of(alloc: Global, bytes: &[u8]) -> Result<String, AllocError> {
     match str::from_utf8(bytes) {
         Ok(text) => format!(in alloc; "{text}"),
@@ -65,7 +65,7 @@ fn push_word(bytes: &mut Vec<u8>, text: &str) -> Result<bool, AllocError> {
     Ok(true)
 }
 
-/// The words' bytes; None where a text is no word.
+/// Returns the bytes of the words; None if a text isn't a word.
 pub fn code_bytes(alloc: Global, words: &str) -> Result<Option<Vec<u8>>, AllocError> {
     let mut bytes = Vec::new(alloc);
     for text in words.split(' ') {
@@ -127,7 +127,7 @@ fn push_file(bytes: &mut Vec<u8>, text: &str) -> Result<bool, AllocError> {
     Ok(true)
 }
 
-/// The bytes of a file that a text spells; None where a backslash has no sign behind it.
+/// Returns the bytes of the file that a text is for; None if a backslash is followed by no sign.
 pub fn file_bytes(alloc: Global, text: &str) -> Result<Option<Vec<u8>>, AllocError> {
     let mut bytes = Vec::new(alloc);
     if !push_file(&mut bytes, text)? {
@@ -148,7 +148,7 @@ fn push_hex(alloc: Global, bytes: &mut Vec<u8>, word: &str) -> Result<bool, Allo
     Ok(true)
 }
 
-/// The bytes of groups in hexadecimal, parted by blanks; `N*GROUP` is a group N times.
+/// Returns the bytes of groups in hexadecimal, separated by blanks; `N*GROUP` is a group N times.
 pub fn hex_bytes(alloc: Global, text: &str) -> Result<Option<Vec<u8>>, AllocError> {
     let mut bytes = Vec::new(alloc);
     for word in text.split_whitespace() {
@@ -172,8 +172,8 @@ fn push_piece(bytes: &mut Vec<u8>, part: &str) -> Result<bool, AllocError> {
     Ok(true)
 }
 
-/// The bytes of a text in parts between `|`, each as a file's text spells it; `N*PART` is a part N
-/// times, and None stands where a part spells none.
+/// Returns the bytes of a text in parts between `|`, each written as a file's text; `N*PART` is a
+/// part N times. Returns None if a part isn't right.
 pub fn pieces(alloc: Global, text: &str) -> Result<Option<Vec<u8>>, AllocError> {
     let mut bytes = Vec::new(alloc);
     for part in text.split('|') {

@@ -152,7 +152,7 @@ fn marked_answer(alloc: Global, text: &str) -> Result<String, AllocError> {
     }
 }
 
-/// The answer to the question of a line.
+/// Returns the answer to the question of a line.
 pub fn answer(alloc: Global, line: &str) -> Result<String, AllocError> {
     match question(line).split_once(' ') {
         Some(("insn", rest)) => insn_answer(alloc, rest),

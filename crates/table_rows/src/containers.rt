@@ -1,4 +1,4 @@
-//! What is read of containers, as text.
+//! Rows on what is read of containers.
 
 ghost use Rattle.proof_container.specs.Views.{IsWritable};
 
@@ -166,7 +166,7 @@ fn question_of(text: &str) -> Option<(Question, &str)> {
     }
 }
 
-/// The answer to the question of a line.
+/// Returns the answer to the question of a line.
 pub fn answer(alloc: Global, line: &str) -> Result<String, AllocError> {
     let Some((question, pieces)) = question_of(question(line)) else {
         return format!(in alloc; "no question");

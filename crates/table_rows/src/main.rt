@@ -1,51 +1,52 @@
-//! Rows of tables: code words and runs, policies, programs of classic BPF, and containers.
+//! Test runner for code words, runs, policies, formula texts, BPF programs and containers.
 //!
-//! Each file of `data` is a table. A line of it that is empty or begins with `#` has no row. The
-//! fields of the others are parted by tabs, but those of `rows.txt` and `containers.txt`.
+//! Each file of `data` is a table. An empty line of it, or one that begins with `#`, has no row
+//! (test case). The fields of the other lines are separated by tabs, except in the files whose
+//! names end in `.txt`.
 //!
 //! `words.tsv`, on code words of both profiles: a code word, a text of the assembler (or nothing),
-//! and the verdicts of the second and of the first profile. The rows of a line are how the word is
-//! read by both; and of a text what a source of it is in both: the instruction that the word is, or
-//! the refusal, and a mnemonic that the first profile hasn't. Words and texts are those of an
-//! assembler, the verdicts an independent implementation's.
+//! and the verdicts of the second and of the first profile. The rows of a line are how both
+//! profiles read the word, and, for a text, what a source with it is in both: the instruction that
+//! the word is, or the refusal, and a mnemonic that the first profile hasn't. Words and texts come
+//! from an assembler, the verdicts from an independent implementation.
 //!
-//! `runs.tsv`, on what code of the second profile does: a policy, the words of code, a packet, what
-//! the packet comes to and in how many steps. The rows are that it does, and that with a step less
-//! it is out of steps. What packets come to is another machine's.
+//! `runs.tsv`, on runs of code of the second profile: a policy, the words of code, a packet, the
+//! packet's result and its number of steps. The rows are that the run has this result, and that
+//! with one step less it is out of steps. The results come from another machine.
 //!
 //! `files.tsv`, on policies from files: a file, in which `\n` is LF, `\r` is CR and `\N;` is N
-//! blanks, and what comes of reading it: `Lines N`, `Length L`, `Form L POSITION KIND`, or `policy`
-//! with its text and its digest. `built_in.tsv`: the name of a built-in policy, its text, its digest,
-//! and its number, the heights of its formulas, register 16 where a second agent starts, and the
-//! numbers that its containers may have; or a name and `no policy`. The digests are what `sha256sum`
-//! prints of the texts.
+//! blanks, and the result of reading it: `Lines N`, `Length L`, `Form L POSITION KIND`, or `policy`
+//! with its text and its digest. `built_in.tsv`: the name of a built-in policy, its text, its
+//! digest, and its number, the heights of its formulas, register 16 at the start of a second agent,
+//! and the numbers that its containers may have; or a name and `no policy`. The digests are what
+//! `sha256sum` prints for the texts.
 //!
-//! `texts.txt`, on texts: a question, `=` and the answer that is wanted. A text has parts between
-//! `|`, `N*PART` is a part N times, and blanks and ends of lines are written as in `files.tsv`. How
-//! it is read, P, is `One` or `Two` for the profile, with `Left` behind it where the text may name
-//! the steps that are left. The questions are
+//! `texts.txt`, on texts: a question, `=` and the expected answer. A text has parts separated by
+//! `|`, `N*PART` is a part N times, and blanks and line ends are written as in `files.tsv`. P says
+//! how the text is read: `One` or `Two` for the profile, followed by `Left` if the text may name
+//! the remaining steps. The questions are
 //!
 //! - `form P TEXT`: what is printed of the formula, which is read back, or `POSITION KIND`;
 //! - `tree P TEXT`: the formula as a tree; `high P TEXT`: the length of the text and the height of
 //!   the formula, which is copied, printed and read back;
-//! - `source P TEXT`: the invariants of a source with the indices where they stand, or `LINE KIND`;
-//! - `register LEXEME`, `number LEXEME`, `decimal LEXEME`: which one it is; `digit LEXEME`: whether it
-//!   begins with a digit.
+//! - `source P TEXT`: the invariants of a source with their indices, or `LINE KIND`;
+//! - `register LEXEME`, `number LEXEME`, `decimal LEXEME`: which one it is; `digit LEXEME`: whether
+//!   it begins with a digit.
 //!
-//! `codes.txt`, on code words, as a question likewise:
+//! `codes.txt`, on code words, with questions as in `texts.txt`:
 //!
-//! - `insn P INDEX WORD`: what is printed of the word at an index, `outside` where it leads to no
+//! - `insn P INDEX WORD`: what is printed of the word at an index, `outside` if it leads to no
 //!   index, or why the profile has no such word;
-//! - `cut INDICES / WORDS`: how many words code has that is cut at indices, and its unfolded length;
-//!   `marked I INDICES / WORDS`: whether it is marked at I. `N-M` are the indices from N to M, and
-//!   `N*WORD` is a word N times.
+//! - `cut INDICES / WORDS`: how many words the code has that is cut at these indices, and its
+//!   unfolded length; `marked I INDICES / WORDS`: whether it is marked at I. `N-M` are the indices
+//!   from N to M, and `N*WORD` is a word N times.
 //!
-//! `rows.txt`, on programs of classic BPF: a question, `=` and the answer that is wanted. Bytes are
-//! written in hexadecimal, in groups parted by blanks, and `N*GROUP` is a group N times. The
+//! `rows.txt`, on programs of classic BPF: a question, `=` and the expected answer. Bytes are
+//! written in hexadecimal, in groups separated by blanks, and `N*GROUP` is a group N times. The
 //! questions are
 //!
-//! - `read BYTES`: `program N`, N being how many instructions are read, or the kind of what is wrong
-//!   with its number;
+//! - `read BYTES`: `program N`, N being how many instructions are read, or the kind of what is
+//!   wrong with its number;
 //! - `insn I BYTES`: the fields of the instruction at an index, code, jt, jf and k;
 //! - `value BYTES / PACKET`: the value of the program on the packet;
 //! - `code BYTES`: how many words its code has; `block I BYTES`: the words of a block, each as what
@@ -55,19 +56,19 @@
 //! where the program is from, its bytes, the packets, the values and what it is for. Each packet is
 //! a row.
 //!
-//! `containers.txt`, on containers: a question, `=` and the answer that is wanted. The bytes are
-//! pieces parted by blanks: `PCCA`; `#` before bytes in hexadecimal; a group of fields parted by
-//! commas, each a number, the lowest byte first; `N*GROUP`, a group N times, where a field `A+B` is
-//! A the first time and B more each time; and `balanced*N`, the entries of the balanced tree over N
+//! `containers.txt`, on containers: a question, `=` and the expected answer. The bytes are pieces
+//! separated by blanks: `PCCA`; `#` before bytes in hexadecimal; a group of fields separated by
+//! commas, each a number, little-endian; `N*GROUP`, a group N times, in which a field `A+B` is A
+//! the first time and B more each time; and `balanced*N`, the entries of the balanced tree over N
 //! literals, the words 2^32 * k + k. The questions are
 //!
 //! - `read PIECES`: the offset and the kind of the first fault; or `N terms, weight W`, N being how
-//!   many terms are read and W what the proof weighs, 0 where there is none, where the container
-//!   is written again as it was and its extent is that;
-//! - `fields PIECES`: its version, what names the policy, the bound, the code, the invariants, the
-//!   lemmas and the proof, the terms by their ids; `term N PIECES`: the term of id N;
+//!   many terms are read and W the proof's weight, 0 if there is none, if the container is written
+//!   again byte for byte and `extent` gives these terms and its length;
+//! - `fields PIECES`: its version, what names the policy, the step bound, the code, the invariants,
+//!   the lemmas and the proof, the terms by their ids; `term N PIECES`: the term of id N;
 //! - `cuts PIECES`: how many bytes there are, each shorter part being cut at the field that isn't
-//!   whole.
+//!   complete.
 #![tactic(auto)]
 
 mod blocks;

@@ -1,4 +1,4 @@
-//! Bytes of containers, as pieces that are parted by blanks.
+//! Parsing the bytes of containers, written as pieces that are separated by blanks.
 
 use std::alloc::{AllocError, Global};
 
@@ -105,7 +105,7 @@ fn put_piece(alloc: Global, bytes: &mut Vec<u8>, piece: &str) -> Result<bool, Al
     }
 }
 
-/// The bytes of pieces; None where one is none.
+/// Returns the bytes of the pieces; None if one isn't a piece.
 pub fn piece_bytes(alloc: Global, text: &str) -> Result<Option<Vec<u8>>, AllocError> {
     let mut bytes = Vec::new(alloc);
     for piece in text.split_whitespace() {

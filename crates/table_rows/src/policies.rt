@@ -107,12 +107,12 @@ fn read_answer(alloc: Global, bytes: &[u8], row: usize) -> Result<String, AllocE
     }
 }
 
-/// How many rows a line on a file has: one on a fault, two on a policy.
+/// Returns how many rows a line on a file has: one on a fault, two on a policy.
 pub fn file_rows(line: &str) -> usize {
     if field(line, 1) == "policy" { 2 } else { 1 }
 }
 
-/// The answer that a row of a line on a file wants.
+/// Returns the expected answer of a row of a line on a file.
 pub fn file_want(line: &str, row: usize) -> &str {
     match (field(line, 1), row) {
         ("policy", 0) => field(line, 2),
@@ -121,7 +121,7 @@ pub fn file_want(line: &str, row: usize) -> &str {
     }
 }
 
-/// The answer to a row of a line on a file.
+/// Returns the answer to a row of a line on a file.
 pub fn file_answer(alloc: Global, line: &str, row: usize) -> Result<String, AllocError> {
     match file_bytes(alloc, field(line, 0))? {
         None => format!(in alloc; "no file"),
@@ -129,13 +129,13 @@ pub fn file_answer(alloc: Global, line: &str, row: usize) -> Result<String, Allo
     }
 }
 
-/// How many rows a line on a built-in policy has: three, or one where it names none.
+/// Returns how many rows a line on a built-in policy has: three, or one if it names none.
 pub fn built_in_rows(line: &str) -> usize {
     if field(line, 1) == "no policy" { 1 } else { 3 }
 }
 
-/// The answer to a row of a line on a built-in policy: its text, its digest or its measures, or that
-/// it names none.
+/// Returns the answer to a row of a line on a built-in policy: its text, its digest or its
+/// measures, or that it names none.
 pub fn built_in_answer(alloc: Global, line: &str, row: usize) -> Result<String, AllocError> {
     match by_name(alloc, field(line, 0))? {
         None => format!(in alloc; "no policy"),

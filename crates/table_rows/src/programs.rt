@@ -4,17 +4,17 @@ use crate::bytes::{field, hex_bytes};
 use crate::questions::{no_question, packet_text};
 use std::alloc::{AllocError, Global};
 
-/// How many rows a line has: one a packet.
+/// Returns how many rows a line has: one for each packet.
 pub fn rows(line: &str) -> usize {
     field(line, 3).split(',').count()
 }
 
-/// The value of a packet that a line wants.
+/// Returns the value of a packet that a line expects.
 pub fn want(line: &str, row: usize) -> &str {
     field(line, 4).split(',').nth(row).unwrap_or("")
 }
 
-/// The value of the program of a line on one of its packets.
+/// Returns the value of the program of a line on one of its packets.
 pub fn answer(alloc: Global, line: &str, row: usize) -> Result<String, AllocError> {
     let packet = field(line, 3).split(',').nth(row).unwrap_or("");
     match hex_bytes(alloc, field(line, 2))? {

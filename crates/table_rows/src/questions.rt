@@ -21,7 +21,7 @@ enum Asked {
     Block(u32),
 }
 
-/// The answer to a question that is none.
+/// Returns the answer to a text that isn't a question.
 pub fn no_question(alloc: Global) -> Result<String, AllocError> {
     format!(in alloc; "no question")
 }
@@ -52,7 +52,7 @@ fn value_text(alloc: Global, bytes: &[u8], packet: &[u8]) -> Result<String, Allo
     }
 }
 
-/// The value of the program that bytes are on a packet in hexadecimal.
+/// Returns the value, as text, of the program in the bytes on a packet in hexadecimal.
 pub fn packet_text(alloc: Global, program: &[u8], packet: &str) -> Result<String, AllocError> {
     match hex_bytes(alloc, packet)? {
         None => no_question(alloc),
@@ -165,7 +165,7 @@ fn asked_answer(alloc: Global, text: &str) -> Result<String, AllocError> {
     }
 }
 
-/// The answer to the question of a line.
+/// Returns the answer to the question of a line.
 pub fn answer(alloc: Global, line: &str) -> Result<String, AllocError> {
     let text = question(line);
     match text.strip_prefix("value ") {

@@ -45,7 +45,7 @@ fn has_stray_sum(policy: Option<PolicyKind>, end: PacketResult) -> bool {
     }
 }
 
-/// The code that words spell; None where they spell none.
+/// Parses the words as code; None if they aren't code.
 pub fn code_in(alloc: Global, words: &str) -> Result<Option<Code>, AllocError> {
     match code_bytes(alloc, words)? {
         None => Ok(None),
@@ -109,7 +109,7 @@ fn policy_text(
     }
 }
 
-/// The answer that a row of a line wants.
+/// Returns the expected answer of a row of a line.
 pub fn want(line: &str, row: usize) -> &str {
     match row {
         0 => field(line, 3),
@@ -117,7 +117,8 @@ pub fn want(line: &str, row: usize) -> &str {
     }
 }
 
-/// What a line's packet comes to: in its steps by the first row, in one less by the second.
+/// Returns the result of a line's packet: in its steps for the first row, in one step less for the
+/// second.
 pub fn answer(alloc: Global, line: &str, row: usize) -> Result<String, AllocError> {
     let steps = field(line, 4).parse::<u64>().unwrap_or(0);
     match by_name(alloc, field(line, 0))? {

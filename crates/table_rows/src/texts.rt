@@ -165,7 +165,7 @@ fn reading_answer(alloc: Global, question: &str, rest: &str) -> Result<String, A
     }
 }
 
-/// The answer to the question of a line.
+/// Returns the answer to the question of a line.
 pub fn answer(alloc: Global, line: &str) -> Result<String, AllocError> {
     let Some((question, rest)) = question(line).split_once(' ') else {
         return format!(in alloc; "no question");

@@ -62,12 +62,12 @@ fn compared(alloc: Global, text: &str, word: u32) -> Result<String, AllocError> 
     Ok(said)
 }
 
-/// How many rows a line has: two on the word, and two on the text where there is one.
+/// Returns how many rows a line has: two on the word, and two on the text if there is one.
 pub fn rows(line: &str) -> usize {
     if field(line, 1).is_empty() { 2 } else { 4 }
 }
 
-/// The answer that a row of a line wants.
+/// Returns the expected answer of a row of a line.
 pub fn want(line: &str, row: usize) -> &str {
     match row {
         0 => field(line, 2),
@@ -87,7 +87,7 @@ fn answer_of(alloc: Global, word: u32, text: &str, row: usize) -> Result<String,
     }
 }
 
-/// The answer to a row of a line.
+/// Returns the answer to a row of a line.
 pub fn answer(alloc: Global, line: &str, row: usize) -> Result<String, AllocError> {
     match word_of(field(line, 0)) {
         None => format!(in alloc; "no word"),

@@ -1,4 +1,4 @@
-//! Rows of text, a token at a time.
+//! Reading a row of text, one token at a time.
 
 ghost use Rattle.test_inputs.specs.Brackets.{bracket_class};
 
@@ -48,19 +48,19 @@ fn is_mark(word: &[u8]) -> bool {
     }
 }
 
-/// What is left of a text that is read.
+/// The rest of a text that is being read.
 #[derive(Drop)]
 pub struct Cursor<'t> {
     rest: &'t [u8],
 }
 
 impl<'t> Cursor<'t> {
-    /// A cursor at the front of the text.
+    /// Returns a cursor at the start of the text.
     pub fn new(text: &'t [u8]) -> Cursor<'t> {
         Cursor { rest: text }
     }
 
-    /// The next token, behind which the cursor stands then.
+    /// Returns the next token, and moves the cursor past it.
     pub fn token(&mut self) -> Read<Token<'t, Bracket>> {
         let rest = self.rest;
         match next_token::<Bracket>(rest, 0) {
@@ -72,7 +72,7 @@ impl<'t> Cursor<'t> {
         }
     }
 
-    /// The next token, where it is a word.
+    /// Returns the next token if it is a word, else None.
     fn next_word(&self) -> Option<&'t [u8]> {
         match next_token::<Bracket>(self.rest, 0) {
             None => None,
@@ -83,7 +83,7 @@ impl<'t> Cursor<'t> {
         }
     }
 
-    /// Goes behind the next token.
+    /// Moves past the next token.
     fn skip(&mut self) {
         let rest = self.rest;
         match next_token::<Bracket>(rest, 0) {
@@ -92,7 +92,7 @@ impl<'t> Cursor<'t> {
         }
     }
 
-    /// What is wrong where no word stands next.
+    /// Returns what is wrong if the next token isn't a word.
     fn no_word(&self) -> RowFault {
         if self.ends() {
             RowFault::Ends
@@ -101,7 +101,7 @@ impl<'t> Cursor<'t> {
         }
     }
 
-    /// The next token, which has to be a word.
+    /// Returns the next token, which must be a word, and moves the cursor past it.
     pub fn word(&mut self) -> Read<&'t [u8]> {
         match self.next_word() {
             None => Err(self.no_word()),
@@ -112,7 +112,7 @@ impl<'t> Cursor<'t> {
         }
     }
 
-    /// Whether the next token is this word.
+    /// Returns whether the next token is this word.
     pub fn meets(&self, word: &[u8]) -> bool {
         match self.next_word() {
             None => false,
@@ -120,7 +120,7 @@ impl<'t> Cursor<'t> {
         }
     }
 
-    /// Goes behind the next token where it is this word, and says whether it did.
+    /// Moves past the next token if it is this word, and returns whether it was.
     pub fn passes(&mut self, word: &[u8]) -> bool {
         let meets = self.meets(word);
         if meets {
@@ -129,7 +129,7 @@ impl<'t> Cursor<'t> {
         meets
     }
 
-    /// Whether the next token is a word that parts trees of a row.
+    /// Returns whether the next token is a word that separates the trees of a row.
     pub fn meets_mark(&self) -> bool {
         match self.next_word() {
             None => false,
@@ -137,12 +137,12 @@ impl<'t> Cursor<'t> {
         }
     }
 
-    /// What is left of the text.
+    /// Returns the rest of the text.
     pub fn rest(&self) -> &'t [u8] {
         self.rest
     }
 
-    /// Whether only blanks are left.
+    /// Returns whether only blanks are left.
     pub fn ends(&self) -> bool {
         next_token::<Bracket>(self.rest, 0).is_none()
     }

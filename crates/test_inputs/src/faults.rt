@@ -5,25 +5,25 @@ use std::alloc::AllocError;
 /// What is wrong with a row of text.
 #[derive(Clone, Copy)]
 pub enum RowFault {
-    /// A call found no room.
+    /// A call ran out of memory.
     Memory,
     /// The row ends within a term, or before an answer.
     Ends,
-    /// Something stands behind the row's end.
+    /// Something follows the end of the row.
     Longer,
-    /// A bracket that closes nothing, or stands where a word has to.
+    /// A bracket that closes nothing, or a bracket instead of a word.
     Bracket,
-    /// A word that names nothing there.
+    /// A word that isn't a name there.
     Word,
-    /// A number that is none, or too large.
+    /// A number that isn't one, or is too large.
     Number,
-    /// A type where a term has to stand, or a term where a type has to.
+    /// A type instead of a term, or a term instead of a type.
     Sort,
-    /// A tree that isn't the table's.
+    /// An id that isn't the table's.
     Unknown,
 }
 
-/// What is read, or what is wrong.
+/// What was read, or what is wrong.
 pub type Read<T> = Result<T, RowFault>;
 
 impl From<AllocError> for RowFault {
@@ -33,7 +33,7 @@ impl From<AllocError> for RowFault {
 }
 
 impl RowFault {
-    /// The fault in words.
+    /// Returns a message that says what is wrong.
     pub fn words(self) -> &'static str {
         match self {
             RowFault::Memory => "no memory",

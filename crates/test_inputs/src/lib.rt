@@ -1,8 +1,8 @@
-//! What programs of rows share: rows of text with terms in them.
+//! Parser for test files whose test cases contain LF terms, shared by the test runners.
 //!
-//! Nothing is promised of them but what the tests' proofs need: each tests at run time what it asks of
-//! ids, so that the tests carry no facts. What a text is read as are trees of the table, and the table
-//! keeps what it had (`term_text`).
+//! The contracts promise only what the tests' proofs need: each function checks at run time what it
+//! requires of ids, so that tests carry no facts. Text is read as trees of the table, and ids of
+//! the table keep their trees (`term_text`).
 #![tactic(auto)]
 
 pub mod cursors;

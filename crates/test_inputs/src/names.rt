@@ -18,14 +18,14 @@ pub struct Names {
 }
 
 impl Names {
-    /// No names.
+    /// Returns an empty list of names.
     pub fn new(alloc: Global) -> Names {
         Names {
             rows: Vec::new(alloc),
         }
     }
 
-    /// The tree that the name stands for, if it is a name.
+    /// Returns the tree with this name, or None if there is none.
     pub fn find(&self, name: &[u8]) -> Option<Id> {
         for row in self.rows.as_slice() {
             if row.name.as_slice() == name {
@@ -35,7 +35,7 @@ impl Names {
         None
     }
 
-    /// Lets the name stand for the tree where it stood for one, and says whether it did.
+    /// Gives the name to this tree if it names a tree already, and returns whether it did.
     fn replace(&mut self, name: &[u8], tree: Id) -> bool {
         for row in self.rows.iter_mut() {
             if row.name.as_slice() == name {
@@ -46,7 +46,7 @@ impl Names {
         false
     }
 
-    /// Adds a name that isn't there.
+    /// Adds a name that isn't there yet.
     fn add(&mut self, name: &[u8], tree: Id) -> Read<()> {
         let alloc = *self.rows.allocator();
         let name = Vec::from_slice(alloc, name)?;
@@ -56,7 +56,7 @@ impl Names {
         }
     }
 
-    /// Lets the name stand for the tree from now on.
+    /// Gives the name to this tree from now on.
     pub fn define(&mut self, name: &[u8], tree: Id) -> Read<()> {
         if self.replace(name, tree) {
             Ok(())

@@ -1,4 +1,4 @@
-//! Trees as text.
+//! Printing trees as text.
 
 ghost use Rattle.term_table.specs.Table.{IsKnown};
 
@@ -6,7 +6,7 @@ use crate::term_text::{CONSTANTS, FAMILIES};
 use std::alloc::{AllocError, Global};
 use term_table::{Id, Node, Table};
 
-/// How deep a printed tree is at most; what lies deeper is printed as `..`.
+/// The maximal depth of a printed tree; deeper parts are printed as `..`.
 const DEEPEST: u32 = 24;
 
 /// Appends a word and a number.
@@ -90,7 +90,10 @@ fn put_tree(text: &mut String, table: &Table, tree: Id, depth: u32) -> Result<()
     }
 }
 
-/// The tree as text, in the notation of `term_text`, each application in parentheses of its own.
+/// Returns the tree as text, in the notation of `term_text`, each application in parentheses of its
+/// own.
+///
+/// Errors: out of memory.
 pub fn tree_text(alloc: Global, table: &Table, tree: Id) -> Result<String, AllocError> {
     let mut text = String::new(alloc);
     if (tree.index() as u64) < table.count() {

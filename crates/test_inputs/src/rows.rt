@@ -1,9 +1,11 @@
-//! Files of rows: a row is a question with the answer that is wanted, or gives a name to a tree.
+//! Files of rows (test cases): a row is a question with the expected answer, or gives a name to a
+//! tree.
 //!
-//! A row begins at the start of a line and goes on over the lines behind it that begin with a blank;
-//! lines that begin with `#` and empty lines are none. `NAME := t` gives a name to a term or type,
-//! `repeat N NAME := t NAME := t ..` does so over and over, N times, and any other row is a question
-//! of the program's, `=` and the answer: `yes`, `no`, `none`, `memory`, a number, or a term or type.
+//! A row begins at the start of a line and continues over the following lines that begin with a
+//! blank; lines that begin with `#` and empty lines are no rows. `NAME := t` gives a name to a term
+//! or type, `repeat N NAME := t NAME := t ..` does so over and over, N times, and any other row is
+//! a question of the program's, `=` and the answer: `yes`, `no`, `none`, `memory`, a number, or a
+//! term or type.
 
 ghost use Rattle.std.specs.Prelude.{◌≤◌, length};
 ghost use Rattle.term_table.specs.Table.{IsKnown};
@@ -18,26 +20,26 @@ use std::rt::Files;
 use std::{fs, io};
 use term_table::{Id, Node, Places, Table};
 
-/// What a question comes to.
+/// The answer to a question.
 #[derive(Clone, Copy)]
 pub enum Answer {
     Yes,
     No,
     /// There is no such tree or number.
     Nothing,
-    /// Want of memory.
+    /// The call ran out of memory.
     Memory,
     Number(u64),
     Tree(Id),
 }
 
 impl Answer {
-    /// Yes, where it holds.
+    /// Returns the answer yes if `holds`, else no.
     pub fn holds(holds: bool) -> Answer {
         if holds { Answer::Yes } else { Answer::No }
     }
 
-    /// The tree, if there is one.
+    /// Returns the tree as an answer, or `Nothing` if there is none.
     pub fn tree(tree: Option<Id>) -> Answer {
         match tree {
             Some(tree) => Answer::Tree(tree),
@@ -46,9 +48,10 @@ impl Answer {
     }
 }
 
-/// The questions that a program's rows may ask.
+/// The questions that the rows of a program may ask.
 pub trait Questions {
-    /// The answer to the question that begins with this word, whose parts the cursor stands before.
+    /// Returns the answer to the question that begins with the word `question`; the cursor is
+    /// before the parts of the question.
     fn answer(
         table: &mut Table,
         names: &Names,
@@ -361,9 +364,10 @@ fn go_through<R: AllocGlobal + Print, Q: Questions>(
     Ok(())
 }
 
-/// Goes through the rows of a file, and prints each whose answer differs, with its number among the
-/// questions and the answer that was got, and each that is no row, with its fault; and at last how
-/// many questions there were and how many of them differ. The program answers the questions.
+/// Runs the rows of a file. Prints each row whose answer differs, with its number among the
+/// questions and the answer that the program gave, and each line that isn't a row, with its fault;
+/// and last, how many questions there were and how many of them differ. The program `Q` answers the
+/// questions.
 pub fn run<R: AllocGlobal + Files + Print, Q: Questions>(rt: &R, path: &str) -> io::Result<()> {
     let text = fs::read(rt, path)?;
     let mut counts = Counts { rows: 0, differ: 0 };

@@ -1,8 +1,8 @@
-//! Terms and types as text.
+//! Parsing terms and types.
 //!
-//! A word stands for a leaf of a tree or for what a row has named so; `(f a b)` applies, `[] b` is an
-//! abstraction over `b`, and `{A} B` the product of the types `A` and `B` (docs/PROOFS.md, "Terms as
-//! text"). There is no limit on how deeply brackets nest but memory.
+//! A word is a leaf of a tree, or a name that a row has given to a tree. `(f a b)` is an
+//! application, `[] b` an abstraction over `b`, and `{A} B` the product of the types `A` and `B`
+//! (docs/PROOFS.md, "Terms as text"). Only memory limits how deeply brackets nest.
 
 ghost use Rattle.std.specs.Prelude.{◌≡◌, IfOk, OnOk, not, true, false};
 ghost use Rattle.term_table.specs.Scope.{is_term_shape};
@@ -171,7 +171,7 @@ fn word_of(numeral: &[u8]) -> Read<u64> {
     }
 }
 
-/// The number below 2^32 that a numeral is.
+/// Parses a decimal numeral as a number below 2^32.
 pub fn small_of(numeral: &[u8]) -> Read<u32> {
     let word = word_of(numeral)?;
     match u32::try_from(word) {
@@ -189,19 +189,19 @@ fn named_number(cursor: &mut Cursor<'_>, names: &[&'static str]) -> Read<u32> {
     }
 }
 
-/// The number of up to 64 bits that the next word is.
+/// Reads the next word as a number of up to 64 bits.
 pub fn word_number(cursor: &mut Cursor<'_>) -> Read<u64> {
     let word = cursor.word()?;
     word_of(word)
 }
 
-/// The number of up to 32 bits that the next word is.
+/// Reads the next word as a number of up to 32 bits.
 pub fn small_number(cursor: &mut Cursor<'_>) -> Read<u32> {
     let word = cursor.word()?;
     small_of(word)
 }
 
-/// Tests that the id is one of the table.
+/// Checks that the id is one of the table.
 pub fn known(table: &Table, id: Id) -> Read<()>
     ensures { OnOk result (IsKnown table.now id) }
 {
@@ -212,7 +212,7 @@ pub fn known(table: &Table, id: Id) -> Read<()>
     }
 }
 
-/// Tests that each id is one of the table.
+/// Checks that each id is one of the table.
 pub fn all_known(table: &Table, ids: &[Id]) -> Read<()>
     ensures { OnOk result (AllKnown table.now ids.now) }
 {
@@ -225,7 +225,7 @@ pub fn all_known(table: &Table, ids: &[Id]) -> Read<()>
     }
 }
 
-/// Whether the tree is a type.
+/// Returns whether the tree is a type.
 pub fn is_type(table: &Table, id: Id) -> bool
     requires { IsKnown table.now id }
     ensures { result ≡ not (is_term_shape (tree_at table.now id)) }
@@ -551,9 +551,9 @@ fn whole_tree(table: &mut Table, names: &Names, cursor: &mut Cursor<'_>) -> Read
     Err(RowFault::Memory)
 }
 
-/// The term or type that the cursor's next tokens are, behind which it stands then.
+/// Reads the next tokens as a term or type, and moves the cursor past it.
 ///
-/// Errors: the fault of a text that is neither; the table keeps what it had.
+/// Errors: the fault, if the text is neither; every id of the table keeps its tree.
 pub fn read_tree(table: &mut Table, names: &Names, cursor: &mut Cursor<'_>) -> Read<Id>
     ensures known { IfOk result (IsKnown table.new) }
     ensures extends { Extends table.old table.new }
@@ -563,9 +563,9 @@ pub fn read_tree(table: &mut Table, names: &Names, cursor: &mut Cursor<'_>) -> R
     Ok(tree)
 }
 
-/// The terms and types before the next `=`, `/`, `:` or `|-`, before which the cursor stands then.
+/// Reads the terms and types before the next `=`, `/`, `:` or `|-`, and moves the cursor to it.
 ///
-/// Errors: the fault of a text that is neither, or ends before.
+/// Errors: the fault, if the text is neither, or ends before such a word.
 pub fn read_trees(table: &mut Table, names: &Names, cursor: &mut Cursor<'_>) -> Read<Vec<Id>> {
     let mut trees = Vec::new(table.allocator());
     for _ in 0..u64::MAX {

@@ -1,5 +1,5 @@
-//! Rows of one instruction: its code word with what `check` says of it, or its text with what `asm`
-//! makes of it.
+//! Rows of one instruction: its code word with the line that `check` prints, or its text with what
+//! `asm` makes of it.
 
 use crate::scene::Scene;
 use crate::shapes::container;
@@ -30,7 +30,8 @@ fn place_word(scene: &mut Scene, word: &str) -> Result<bool, AllocError> {
     }
 }
 
-/// A code word before a return, and the line that `check` refuses it by: `WORD LINE`.
+/// Begins a row of a code word before a return, and the line with which `check` refuses it: `WORD
+/// LINE`.
 pub(crate) fn begin_word(scene: &mut Scene, line: u32, text: &str) -> Result<bool, AllocError> {
     let Some((word, answer)) = text.split_once(' ') else {
         return Ok(false);
@@ -63,8 +64,8 @@ fn finds(scene: &mut Scene, fault: &str) -> Result<bool, AllocError> {
     scene.row.prints(answer.as_str(), true)
 }
 
-/// The text of an instruction, and its code word or the fault that `asm` finds: `WORD TEXT` or
-/// `FAULT TEXT`.
+/// Begins a row of an instruction's text, and its code word or the fault that `asm` reports: `WORD
+/// TEXT` or `FAULT TEXT`.
 pub(crate) fn begin_insn(scene: &mut Scene, line: u32, text: &str) -> Result<bool, AllocError> {
     let Some((word, insn)) = text.split_once(' ') else {
         return Ok(false);

@@ -1,4 +1,4 @@
-//! The lines of a row behind its command.
+//! The lines of a row after its command.
 
 use crate::goals::finish_goal;
 use crate::numbers::{number, numbers};
@@ -7,7 +7,7 @@ use crate::scene::Scene;
 use std::alloc::{AllocError, Global};
 
 impl Row {
-    /// The calls of files that fail, or the puts.
+    /// Sets the calls of files that fail, or the calls of the output.
     fn fails(&mut self, alloc: Global, key: &str, text: &str) -> Result<bool, AllocError> {
         let Some(list) = numbers(alloc, text)? else {
             return Ok(false);
@@ -19,7 +19,7 @@ impl Row {
         Ok(true)
     }
 
-    /// The room for writes, or for output.
+    /// Sets the room for writes, or for output.
     fn has_room(&mut self, key: &str, text: &str) -> bool {
         let Some(count) = number(text) else {
             return false;
@@ -31,7 +31,7 @@ impl Row {
         true
     }
 
-    /// A line of output.
+    /// Adds an expected line of output.
     pub(crate) fn prints(&mut self, text: &str, ends: bool) -> Result<bool, AllocError> {
         self.output.extend_from_slice(text.as_bytes())?;
         if ends {
@@ -40,13 +40,13 @@ impl Row {
         Ok(true)
     }
 
-    /// The status, from 0 to 255.
+    /// Sets the expected exit status, from 0 to 255.
     fn ends(&mut self, text: &str) -> bool {
         self.status = text.parse::<u8>().ok();
         self.status.is_some()
     }
 
-    /// The status, and a line of output behind it where there is one.
+    /// Sets the expected exit status, and a line of output if one follows it.
     fn ends_so(&mut self, text: &str) -> Result<bool, AllocError> {
         match text.split_once(' ') {
             None => Ok(self.ends(text)),
@@ -57,14 +57,14 @@ impl Row {
         }
     }
 
-    /// The SHA-256 of all output and its size.
+    /// Sets the expected SHA-256 and size of all output.
     fn prints_all(&mut self, alloc: Global, text: &str) -> Result<bool, AllocError> {
         self.digest = Some(String::from_str(alloc, text)?);
         Ok(true)
     }
 
-    /// What is to be left by its digest, `NAME sha256 DIGEST SIZE`, or `NAME nothing`. It is false
-    /// where the text says neither.
+    /// Sets what a file must hold afterwards, by its digest, `NAME sha256 DIGEST SIZE`, or `NAME
+    /// nothing`. Returns false if the text is neither.
     pub(crate) fn leaves(&mut self, alloc: Global, text: &str) -> Result<bool, AllocError> {
         let Some((name, rest)) = text.split_once(' ') else {
             return Ok(false);
@@ -83,7 +83,7 @@ impl Row {
     }
 }
 
-/// What a line of a row does behind its command.
+/// Does what a line of a row after its command says.
 pub(crate) fn take_detail(scene: &mut Scene, key: &str, text: &str) -> Result<bool, AllocError> {
     scene.settle()?;
     if !scene.row.is_begun {

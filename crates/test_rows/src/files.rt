@@ -2,7 +2,7 @@
 
 use std::alloc::{AllocError, Global};
 
-/// The bytes of the file of this name, if there is one.
+/// Returns the bytes of the file with this name, or None if there is none.
 pub fn found<'a>(files: &'a [(String, Vec<u8>)], name: &str) -> Option<&'a [u8]> {
     files
         .iter()
@@ -10,7 +10,7 @@ pub fn found<'a>(files: &'a [(String, Vec<u8>)], name: &str) -> Option<&'a [u8]>
         .map(|file| file.1.as_slice())
 }
 
-/// Sets the bytes of the file of this name, which need not be there before.
+/// Sets the bytes of the file with this name, which need not exist before.
 pub fn placed(
     alloc: Global,
     files: &mut Vec<(String, Vec<u8>)>,
@@ -27,7 +27,7 @@ pub fn placed(
     Ok(())
 }
 
-/// A copy of the files.
+/// Returns a copy of the files.
 pub fn copied(
     alloc: Global,
     files: &[(String, Vec<u8>)],

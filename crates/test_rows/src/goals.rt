@@ -1,5 +1,5 @@
-//! Goals: a hypothesis and a goal as two invariants of a source, which `asm` assembles, `prove`
-//! proves and `check` accepts.
+//! Rows of goals: a hypothesis and a goal as two invariants of a source, which `asm` assembles,
+//! `prove` proves and `check` accepts.
 
 use crate::program::Program;
 use crate::row::Row;
@@ -7,7 +7,7 @@ use crate::running::{carry, run, run_row};
 use crate::scene::Scene;
 use std::alloc::AllocError;
 
-/// Begins a goal by its hypothesis, with no files.
+/// Begins a row of a goal by its hypothesis, with no files.
 pub(crate) fn begin_goal(scene: &mut Scene, line: u32, text: &str) -> Result<bool, AllocError> {
     scene.clear();
     scene.begin(line, "prove tag C P")?;
@@ -16,7 +16,7 @@ pub(crate) fn begin_goal(scene: &mut Scene, line: u32, text: &str) -> Result<boo
     Ok(true)
 }
 
-/// Makes the source in `S` of the hypothesis and this goal.
+/// Writes the source with the hypothesis and this goal into the file `S`.
 pub(crate) fn finish_goal(scene: &mut Scene, text: &str) -> Result<bool, AllocError> {
     if !scene.row.is_goal {
         return Ok(false);
@@ -42,7 +42,7 @@ fn accept<P: Program>(program: &P, scene: &mut Scene, line: u32) -> Result<(), A
     Ok(())
 }
 
-/// Runs `asm`, `prove` as the row says, and `check` of what it wrote.
+/// Runs `asm`, `prove` as the row says, and `check` on what it wrote.
 pub(crate) fn run_goal<P: Program>(
     program: &P,
     scene: &mut Scene,

@@ -1,9 +1,8 @@
-//! Rows of tests as text: reads a file of rows, runs the command of each, and says which come out
-//! otherwise.
+//! Test runner: reads files of test cases, runs each command, and reports what differs.
 //!
-//! A crate above hands over the program that the commands are of (`Program`). What a row looks like
-//! is told in docs/ADDING ("A row"): `scene` has what stands as a file is read, `lines` what a line
-//! does, `pieces` the bytes of files, `running` what becomes of a row.
+//! A crate above supplies the program that the commands belong to (`Program`). docs/ADDING ("A
+//! row") describes what a row looks like. `scene` holds the state while a file is read, `lines`
+//! does what a line says, `pieces` makes the bytes of files, and `running` runs a row.
 #![tactic(auto)]
 
 mod codes;

@@ -1,4 +1,4 @@
-//! What each line of a file of rows does.
+//! Doing what each line of a file of rows says.
 
 use crate::codes::{begin_insn, begin_word};
 use crate::details::take_detail;
@@ -143,9 +143,9 @@ fn run_rows<P: Program>(
     end_row(program, scene)
 }
 
-/// Takes a file of data of this name and text: rows, which it runs, where the name ends in `.rows`,
-/// else hexadecimal text, whose bytes stand as a file of that name before every row behind it. How
-/// the rows came out is told by the scene.
+/// Takes a data file with this name and text. If the name ends in `.rows`, the text is rows, which
+/// it runs; else it is hexadecimal text, whose bytes are the file of that name for every later row.
+/// The scene reports how the rows came out.
 pub fn take_data<P: Program>(
     program: &P,
     scene: &mut Scene,

@@ -1,9 +1,9 @@
-//! Numbers and bytes that a text spells.
+//! Parsing numbers and bytes.
 
 use sha2::{Digest, Sha256};
 use std::alloc::{AllocError, Global};
 
-/// The number that the text is, in decimal, or in hexadecimal behind `0x`.
+/// Parses the text as a number, in decimal, or in hexadecimal after `0x`.
 pub fn number(text: &str) -> Option<u32> {
     match text.strip_prefix("0x") {
         Some(digits) => u32::from_str_radix(digits, 16).ok(),
@@ -11,7 +11,8 @@ pub fn number(text: &str) -> Option<u32> {
     }
 }
 
-/// The number that the text is in repetition `k`: `A+B` is A there and B more in each later one.
+/// Parses the text as the number of repetition `k`: `A+B` is A at first and B more in each later
+/// repetition.
 pub fn number_at(text: &str, k: u32) -> Option<u32> {
     match text.split_once('+') {
         None => number(text),
@@ -19,7 +20,7 @@ pub fn number_at(text: &str, k: u32) -> Option<u32> {
     }
 }
 
-/// The bytes that a text is in hexadecimal, with any blanks and ends of lines between bytes.
+/// Parses the text as bytes in hexadecimal, with any blanks and line ends between bytes.
 pub fn hex_bytes(alloc: Global, text: &str) -> Result<Option<Vec<u8>>, AllocError> {
     let mut bytes = Vec::new(alloc);
     for group in text.split_whitespace() {
@@ -31,7 +32,7 @@ pub fn hex_bytes(alloc: Global, text: &str) -> Result<Option<Vec<u8>>, AllocErro
     Ok(Some(bytes))
 }
 
-/// The numbers of a list, parted by blanks.
+/// Parses the text as a list of numbers, separated by blanks.
 pub fn numbers(alloc: Global, text: &str) -> Result<Option<Vec<u32>>, AllocError> {
     let mut list = Vec::new(alloc);
     for word in text.split_whitespace() {
@@ -43,7 +44,7 @@ pub fn numbers(alloc: Global, text: &str) -> Result<Option<Vec<u32>>, AllocError
     Ok(Some(list))
 }
 
-/// The SHA-256 of bytes in hexadecimal, a blank and their count.
+/// Returns the SHA-256 of the bytes in hexadecimal, a blank and their number.
 pub fn digest(alloc: Global, bytes: &[u8]) -> Result<String, AllocError> {
     let sum = hex::encode(alloc, Sha256::digest(bytes).as_slice())?;
     let count = bytes.len();

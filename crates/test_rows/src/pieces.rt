@@ -1,4 +1,4 @@
-//! Pieces of which the bytes of a file are made, a line each.
+//! The pieces that the bytes of a file are made of, a line each.
 
 use crate::files::found;
 use crate::numbers::{hex_bytes, number, number_at};
@@ -152,7 +152,7 @@ fn repeated(
     Ok(Some(bytes))
 }
 
-/// The bytes of a line that is a piece, or None where it is none.
+/// Returns the bytes of a line that is a piece, or None if it isn't one.
 pub fn piece(
     alloc: Global,
     files: &[(String, Vec<u8>)],

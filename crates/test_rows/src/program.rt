@@ -3,9 +3,9 @@
 use file_port::{MemFiles, MemSink};
 use std::alloc::Global;
 
-/// A program that is called with words over files and output in memory.
+/// A program that is called with arguments, over files and output in memory.
 pub trait Program {
-    /// Runs the program, and answers with its status.
+    /// Runs the program with the arguments `words`, and returns its exit status.
     fn call(
         &self,
         alloc: Global,

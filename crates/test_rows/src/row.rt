@@ -2,19 +2,21 @@
 
 use std::alloc::{AllocError, Global};
 
-/// What is to stand in a file after the command.
+/// What a file must hold after the command.
 #[derive(Drop)]
 pub struct Left {
     /// The file's name.
     pub name: String,
-    /// Its bytes, as far as pieces tell them.
+    /// Its bytes, as far as pieces give them.
     pub bytes: Vec<u8>,
-    /// Its SHA-256 and size in place of its bytes, or `nothing` where there is to be no file.
+    /// Its SHA-256 and size instead of its bytes, or `nothing` if there must be no file.
     pub digest: Option<String>,
 }
 
 impl Left {
-    /// An empty file of this name.
+    /// Returns an expectation of an empty file with this name.
+    ///
+    /// Errors: out of memory.
     pub fn of(alloc: Global, name: &str) -> Result<Left, AllocError> {
         let name = String::from_str(alloc, name)?;
         Ok(Left {
@@ -24,7 +26,7 @@ impl Left {
         })
     }
 
-    /// Whether there is to be no file.
+    /// Returns whether there must be no file.
     pub fn is_nothing(&self) -> bool {
         match &self.digest {
             None => false,
@@ -33,41 +35,41 @@ impl Left {
     }
 }
 
-/// A row: a command, and how it ends.
+/// A row: a command, and how it must end.
 #[derive(Drop)]
 pub struct Row {
     /// Whether a row has begun.
     pub is_begun: bool,
-    /// Whether the row is a goal, so that `asm` stands before its command and `check` behind it.
+    /// Whether the row is a goal, so that `asm` runs before its command and `check` after it.
     pub is_goal: bool,
     /// The goal's hypothesis.
     pub hypothesis: String,
-    /// Whether the row is to come out otherwise than it says.
+    /// Whether the row must come out otherwise than it says.
     pub is_wrong: bool,
     /// The number of its first line.
     pub line: u32,
-    /// The words of its command, parted by blanks.
+    /// The words of its command, separated by blanks.
     pub words: String,
-    /// The calls of read and write that fail, from 1.
+    /// The calls of read and write that fail, counted from 1.
     pub calls: Vec<u32>,
-    /// The puts that fail, from 1.
+    /// The writes to the output that fail, counted from 1.
     pub puts: Vec<u32>,
     /// How many writes there is room for.
     pub room: u32,
     /// How many bytes of output there is room for.
     pub space: u32,
-    /// The status, where it is said.
+    /// The expected exit status, if the row says it.
     pub status: Option<u8>,
-    /// What is printed.
+    /// The expected output.
     pub output: Vec<u8>,
-    /// The SHA-256 and size of what is printed, in its place.
+    /// The SHA-256 and size of the expected output, instead of its bytes.
     pub digest: Option<String>,
-    /// What is to stand in files.
+    /// What files must hold afterwards.
     pub left: Vec<Left>,
 }
 
 impl Row {
-    /// No row yet.
+    /// Returns a row that hasn't begun.
     pub fn new(alloc: Global) -> Row {
         Row {
             is_begun: false,
@@ -87,7 +89,7 @@ impl Row {
         }
     }
 
-    /// A row that begins at this line with these words.
+    /// Returns a row that begins at this line with these words.
     pub fn of(alloc: Global, line: u32, words: &str) -> Result<Row, AllocError> {
         let words = String::from_str(alloc, words)?;
         let mut row = Row::new(alloc);
@@ -97,7 +99,8 @@ impl Row {
         Ok(row)
     }
 
-    /// A row that begins so, and accepts.
+    /// Returns a row that begins at this line with these words, and expects that the container is
+    /// accepted.
     pub fn accepting(alloc: Global, line: u32, words: &str) -> Result<Row, AllocError> {
         let output = Vec::from_slice(alloc, b"accepted\n")?;
         let mut row = Row::of(alloc, line, words)?;
@@ -106,7 +109,7 @@ impl Row {
         Ok(row)
     }
 
-    /// Says that the file of this name is to have this SHA-256 and size, or to be nothing.
+    /// Adds the expectation that the file with this name has this SHA-256 and size, or is nothing.
     pub fn expect(&mut self, alloc: Global, name: &str, digest: &str) -> Result<(), AllocError> {
         let mut left = Left::of(alloc, name)?;
         left.digest = Some(String::from_str(alloc, digest)?);
@@ -114,7 +117,7 @@ impl Row {
         Ok(())
     }
 
-    /// Says that the file of this name is to have these bytes.
+    /// Adds the expectation that the file with this name has these bytes.
     pub fn expect_bytes(
         &mut self,
         alloc: Global,
@@ -127,7 +130,7 @@ impl Row {
         Ok(())
     }
 
-    /// Whether the row says what is to stand in the file of this name.
+    /// Returns whether the row says what the file with this name must hold.
     pub fn names(&self, name: &str) -> bool {
         self.left.iter().any(|left| name == left.name.as_str())
     }

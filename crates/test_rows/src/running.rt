@@ -1,4 +1,4 @@
-//! What becomes of a row: its command is run over copies of the files, and compared.
+//! Running a row: its command runs over copies of the files, and the result is compared.
 
 use crate::files::{copied, found};
 use crate::numbers::digest;
@@ -8,7 +8,7 @@ use crate::scene::Scene;
 use file_port::{MemFiles, MemSink};
 use std::alloc::{AllocError, Global};
 
-/// What a command came to.
+/// The result of a command.
 #[derive(Drop)]
 pub(crate) struct Ran {
     pub status: u8,
@@ -98,7 +98,7 @@ fn are_kept(before: &[(String, Vec<u8>)], files: &MemFiles, row: &Row) -> bool {
     true
 }
 
-/// Sets the files of these names as they stand after a command.
+/// Sets the files with these names to what they hold after a command.
 pub(crate) fn carry(scene: &mut Scene, names: &str, files: &MemFiles) -> Result<(), AllocError> {
     for name in names.split_whitespace() {
         if let Some(bytes) = files.get(name) {
@@ -191,7 +191,7 @@ fn judge(scene: &mut Scene, row: &Row, ran: &Ran) -> Result<bool, AllocError> {
     compare(scene, row, ran, ended, left && kept)
 }
 
-/// Runs a row, and answers whether it came out as it says.
+/// Runs a row, and returns whether it came out as it says.
 pub(crate) fn run_row<P: Program>(
     program: &P,
     scene: &mut Scene,

@@ -1,4 +1,4 @@
-//! What stands as files of rows are read.
+//! The state while files of rows are read.
 
 use crate::files::placed;
 use crate::row::Row;
@@ -6,18 +6,18 @@ use crate::tally::Tally;
 use std::alloc::{AllocError, Global};
 use std::mem;
 
-/// Where a piece goes.
+/// Where the bytes of a piece go.
 #[derive(Clone, Copy)]
 pub enum Target {
     /// Nowhere.
     Nothing,
-    /// To the file that was named last.
+    /// To the file named last.
     File,
-    /// To what the row's last file is to hold.
+    /// To what the row's last file must hold.
     Left,
 }
 
-/// What stands as files of rows are read: files, the row that has begun, and the tally.
+/// The state while files of rows are read: files, the row that has begun, and the tally.
 #[derive(Drop)]
 pub struct Scene {
     pub(crate) alloc: Global,
@@ -32,7 +32,7 @@ pub struct Scene {
 }
 
 impl Scene {
-    /// No files and no rows.
+    /// Returns the state with no files and no rows.
     pub fn new(alloc: Global) -> Scene {
         Scene {
             alloc,
@@ -47,8 +47,7 @@ impl Scene {
         }
     }
 
-    /// Adds a file that stands before every row behind it, and takes away what rows in front of it
-    /// left.
+    /// Adds a file that exists for every later row, and removes what earlier rows left.
     pub fn give(&mut self, name: &str, bytes: Vec<u8>) -> Result<(), AllocError> {
         self.clear();
         placed(self.alloc, &mut self.files, name, bytes)?;
@@ -56,7 +55,7 @@ impl Scene {
         Ok(())
     }
 
-    /// Sets the bytes of the file of this name.
+    /// Sets the bytes of the file with this name.
     pub(crate) fn place(&mut self, name: &str, bytes: &[u8]) -> Result<(), AllocError> {
         let copy = Vec::from_slice(self.alloc, bytes)?;
         placed(self.alloc, &mut self.files, name, copy)
@@ -68,19 +67,19 @@ impl Scene {
         Ok(())
     }
 
-    /// Takes away all files but those that were given.
+    /// Removes all files but the ones that were given.
     pub(crate) fn clear(&mut self) {
         self.files.truncate(self.given);
     }
 
-    /// Begins the bytes of a file of this name, that stands or is to be left.
+    /// Begins the bytes of the file with this name, which exists or is expected.
     pub(crate) fn aim(&mut self, target: Target, name: &str) -> Result<(), AllocError> {
         self.at = String::from_str(self.alloc, name)?;
         self.target = target;
         Ok(())
     }
 
-    /// Puts the bytes that were begun where they go.
+    /// Puts the bytes that were begun to where they go.
     pub(crate) fn settle(&mut self) -> Result<(), AllocError> {
         let name = mem::replace(&mut self.at, String::new(self.alloc));
         let bytes = mem::replace(&mut self.bytes, Vec::new(self.alloc));
@@ -93,21 +92,21 @@ impl Scene {
         Ok(())
     }
 
-    /// Begins a file of rows of this name.
+    /// Begins the file of rows with this name.
     pub(crate) fn open(&mut self, name: &str) -> Result<(), AllocError> {
         self.clear();
         self.name = String::from_str(self.alloc, name)?;
         Ok(())
     }
 
-    /// Counts that a line of the file of rows differs, and keeps why.
+    /// Counts that a line of the file of rows differs, and stores why.
     pub fn differs(&mut self, line: u32, why: &str) -> Result<(), AllocError> {
         let name = self.name.as_str();
         let text = format!(in self.alloc; "{name} {line}: {why}")?;
         self.tally.differs(text.as_str())
     }
 
-    /// The rows that differ, and the last line: `N rows, M differ`.
+    /// Returns the rows that differ, and the last line: `N rows, M differ`.
     pub fn report(&self) -> Result<String, AllocError> {
         self.tally.report(self.alloc)
     }

@@ -33,8 +33,8 @@ fn front(alloc: Global, policy: u32, words: &[u32]) -> Result<Vec<u8>, AllocErro
     Ok(bytes)
 }
 
-/// The front of a container of version 1, up to its code words: `POLICY WORD ..`, the policy's
-/// number and the words in hexadecimal.
+/// Returns the front of a container of version 1, up to its code words, from `POLICY WORD ..`, the
+/// policy's number and the words in hexadecimal.
 pub fn container(alloc: Global, text: &str) -> Result<Option<Vec<u8>>, AllocError> {
     let Some((policy, rest)) = text.split_once(' ') else {
         return Ok(None);
@@ -59,8 +59,8 @@ fn join(bytes: &mut Vec<u8>, waiting: &mut Vec<u32>, entry: u32) -> Result<(), A
     Ok(())
 }
 
-/// The entries of the balanced tree of applications over the literals from 0 on, of which there are
-/// as many as the text says: a power of 2.
+/// Returns the entries of the balanced tree of applications over the literals from 0 on; the text
+/// gives their number, a power of 2.
 pub fn balanced(alloc: Global, text: &str) -> Result<Option<Vec<u8>>, AllocError> {
     let Some(leaves) = number(text) else {
         return Ok(None);

@@ -1,8 +1,8 @@
-//! How many rows there were, and which came out otherwise.
+//! The number of rows, and the rows that came out otherwise.
 
 use std::alloc::{AllocError, Global};
 
-/// How many rows there were, and a text of those that came out otherwise.
+/// The number of rows, and a text about the rows that came out otherwise.
 #[derive(Drop)]
 pub struct Tally {
     rows: u64,
@@ -11,7 +11,7 @@ pub struct Tally {
 }
 
 impl Tally {
-    /// No rows yet.
+    /// Returns the tally of no rows.
     pub fn new(alloc: Global) -> Tally {
         Tally {
             rows: 0,
@@ -25,14 +25,14 @@ impl Tally {
         self.rows = self.rows.saturating_add(1);
     }
 
-    /// Counts one that differs, and keeps this line of it.
+    /// Counts a row that differs, and stores this line about it.
     pub fn differs(&mut self, line: &str) -> Result<(), AllocError> {
         self.differ = self.differ.saturating_add(1);
         self.text.push_str(line)?;
         self.text.push('\n')
     }
 
-    /// The rows that differ, and the last line: `N rows, M differ`.
+    /// Returns the rows that differ, and the last line: `N rows, M differ`.
     pub fn report(&self, alloc: Global) -> Result<String, AllocError> {
         let text = self.text.as_str();
         let rows = self.rows;

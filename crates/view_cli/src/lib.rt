@@ -1,10 +1,10 @@
-//! `pcc_view`: shows what `pcc` judges: containers, conditions, runs, and what is wrong with texts.
+//! The verified program pcc_view: displays containers, goals, runs and parse errors.
 //!
 //! The top call is `pcc_view`; the program, view_main, calls it over the real files and output.
-//! What arguments ask for stands in `specs/Tasks`, over a stage a command in `specs/Commands`; what
-//! a run of each command shows in `specs/Headline`; the lines that say how the program is called in
-//! `specs/Texts`. How a run ends, and what that says of status and counts, stands in pcc_exit, as
-//! with pcc.
+//! `specs/Tasks` says what arguments ask for, over a stage for each command in `specs/Commands`;
+//! `specs/Headline` says what a run of each command shows, and `specs/Texts` has the lines on how
+//! to call the program. How a run ends, and what that says about exit status and counts, is defined
+//! in pcc_exit, as for pcc.
 #![tactic(auto)]
 
 mod commands;

@@ -1,4 +1,4 @@
-//! How much is read.
+//! Limits on what is read.
 
-/// The most bytes of a formula's text, as of a line of a policy's file.
+/// The maximal length of a formula's text in bytes, as for a line of a policy's file.
 pub const MAX_FORMULA: usize = 4_096;

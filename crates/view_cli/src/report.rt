@@ -10,29 +10,29 @@ use crate::texts::{
 use crate::trace_job::TraceJob;
 use file_port::{Put, Sink};
 
-/// What a command prints, and with which status.
+/// What a command prints, and with which exit status it ends.
 #[derive(Drop)]
 pub enum Report {
-    /// The arguments are no command.
+    /// The usage line: the arguments aren't a command.
     Usage,
-    /// How the program is called.
+    /// The help text.
     Help,
     /// The program's version.
     Version,
-    /// What was asked for.
+    /// What the command was asked for.
     Text(Vec<u8>),
     /// What is wrong with a text.
     Fault(Vec<u8>),
-    /// A formula's text is too long.
+    /// The line that a formula's text is too long.
     FormulaTooLong,
-    /// There is no packet of this number.
+    /// The line that there is no packet with this number.
     NoPacket(u64),
-    /// The run on a packet.
+    /// The run on a packet, step by step.
     Traced(TraceJob),
 }
 
 impl Report {
-    /// The status of the run, where all is put.
+    /// Returns the exit status of the run if all of the report is written.
     pub fn status(&self) -> u8
         ensures { result ≡ (exit_of_report self.now).status }
     {
@@ -43,7 +43,7 @@ impl Report {
         }
     }
 
-    /// Prints it; stops at the first put that fails.
+    /// Prints the report; stops at the first write that fails.
     pub fn print<S: Sink>(self, out: &mut S) -> Put
         ensures { Puts (exit_of_report self).text (S.state out.old) (S.state out.new) result }
     {

@@ -1,4 +1,4 @@
-//! The texts that say how the program is called.
+//! The texts on how to call the program.
 
 ghost use Rattle.file_port.specs.Sink.{Puts};
 ghost use Rattle.view_cli.specs.Texts.{view_usage_line, help_text, version_text};
@@ -8,7 +8,7 @@ use arrayvec::ArrayVec;
 use file_port::{Put, Sink};
 use pcc_lines::{Line, push_decimal, push_text};
 
-/// Prints which commands there are.
+/// Prints the usage line, which lists the commands.
 #[tactic(auto, unfolding(crate::specs::Texts::view_usage_line))]
 pub fn print_usage<S: Sink>(out: &mut S) -> Put
     ensures { Puts view_usage_line (S.state out.old) (S.state out.new) result }
@@ -16,7 +16,7 @@ pub fn print_usage<S: Sink>(out: &mut S) -> Put
     out.put(b"usage: pcc_view list|goals|packet|formula|source\n")
 }
 
-/// Prints the forms of commands, with examples.
+/// Prints the help text: the forms of commands, with examples.
 #[tactic(auto, unfolding(crate::specs::Texts::help_text))]
 pub fn print_help<S: Sink>(out: &mut S) -> Put
     ensures { Puts help_text (S.state out.old) (S.state out.new) result }
@@ -59,7 +59,7 @@ pub fn print_formula_too_long<S: Sink>(out: &mut S) -> Put
     out.put(b"formula TooLong\n")
 }
 
-/// Prints that there is no packet of the number.
+/// Prints that there is no packet with this number.
 #[tactic(auto, unfolding(crate::specs::Texts::absent_packet_line))]
 pub fn print_no_packet<S: Sink>(number: u64, out: &mut S) -> Put
     ensures { Puts (absent_packet_line number) (S.state out.old) (S.state out.new) result }

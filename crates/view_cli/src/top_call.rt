@@ -26,7 +26,8 @@ use pcc_stages::{Stop, status_after};
 use std::alloc::Global;
 use view_words::{Command, read_arguments};
 
-/// Reads and refuses: what the command comes to, by the files. Nothing is printed.
+/// Makes the reads of the command and returns its report, or the stop that refuses it. Prints
+/// nothing.
 fn shown<'a, F: Files>(
     alloc: Global,
     command: Command<'a>,
@@ -47,7 +48,8 @@ fn shown<'a, F: Files>(
     }
 }
 
-/// The same by the arguments, where they are a command.
+/// Makes the reads of the command that the arguments are, and returns its report, or the usage
+/// report if they aren't a command.
 fn decide<'a, F: Files>(
     alloc: Global,
     words: &'a [String],
@@ -64,7 +66,7 @@ fn decide<'a, F: Files>(
     }
 }
 
-/// Prints what the run came to, and answers with its status.
+/// Prints the report or stop of the run, and returns the exit status.
 fn print<S: Sink>(decision: Result<Report, Stop<'_>>, out: &mut S) -> u8
     ensures { Prints (exit_of exit_of_report decision.entry)
         (S.state out.old) (S.state out.new) result }
@@ -78,22 +80,22 @@ fn print<S: Sink>(decision: Result<Report, Stop<'_>>, out: &mut S) -> u8
     }
 }
 
-/// Shows what the arguments `words` ask for, over the files and the output, and answers with the
-/// status: 0 shown, 1 refused, or the text is wrong, 2 the arguments are no command, 3 a file is
-/// missing or its read failed, 4 a put failed, 5 want of memory. The program's name is not among
-/// the arguments.
+/// Runs the command that the arguments `words` ask for, over the files and the output, and returns
+/// the exit status. The program's name isn't among the arguments. The status is 0 shown, 1 refused,
+/// or the text is wrong, 2 the arguments aren't a command, 3 a file is missing or its read failed,
+/// 4 a write to the output failed, 5 out of memory.
 ///
 /// Reads first, and prints then. By `runs`, whatever the files hold, the log of the files grows by
-/// the reads that the command asks for, in their order, and by no other, none of which is a write;
-/// what is put on the output, and the status, go by what these reads gave: the definition of each
-/// command's text is that of `view_task_of`.
+/// the reads that the command asks for, in their order, and by no other event; none of them is a
+/// write. The text on the output, and the status, are a function of what these reads gave: for each
+/// command its definition is that of `view_task_of`.
 ///
-/// By `shows`, that is for each command what its users want to know of it: where `list` prints a
-/// source, that spells one source, which is assembled into the same code, and into what FILE holds
-/// but for lemmas and proof; the last line of `goals` names the part that `pcc prove` names; the
-/// last line of `packet` is the packet's line among those of `pcc ref`; `formula` and `source` say
-/// with status 0 what is right, exactly where the text spells it, and else the first fault, and
-/// where that lies in one token of a source, a mark stands under it.
+/// By `shows`, this means for each command what its users want to know. If `list` prints a source,
+/// it parses as exactly one source, which assembles into the container's code, and into what FILE
+/// holds without lemmas and proof. The last line of `goals` names the part that `pcc prove` names.
+/// The last line of `packet` is the packet's line among those of `pcc ref`. `formula` and `source`
+/// print with status 0 what the text is, exactly if it is a formula or source, and else the first
+/// fault; if the fault lies in one token of a source, a mark is under it.
 pub fn pcc_view<F: Files, S: Sink>(
     alloc: Global,
     words: Vec<String>,
@@ -117,9 +119,10 @@ pub fn pcc_view<F: Files, S: Sink>(
     print(decision, out)
 }
 
-/// Where the contents of the files are known, a run ends with the answer over them, or as a failed
-/// call or want of memory brings; where they aren't, less is known (`Ends`); and its status and the
-/// counts of faults say what `Accounts` lists. Both follow from what `pcc_view` says of a run.
+/// States how a run ends, from what `pcc_view` says of it. If the contents of the files are known,
+/// the run ends with the answer over them, or as a failed call or running out of memory requires;
+/// if they aren't known, less is known (`Ends`). Its exit status and the counts of faults say what
+/// `Accounts` lists.
 pub fn laws()
     ensures ends { (args : List (List ℕ)) (e e' : List Event) (f g : FilesState) (s t : SinkState)
         (status : ℕ) → Runs view_texts (view_task_of args).stage e e' f g s t status

@@ -1,4 +1,4 @@
-//! The program `pcc_view`: makes the real files and output, and calls `pcc_view` over them.
+//! The executable `pcc_view`: runs view_cli over the real files and standard output.
 #![tactic(auto)]
 
 use file_port::{DiskFiles, StdSink};
@@ -7,7 +7,7 @@ use std::process::ExitCode;
 use std::{env, io};
 use view_cli::pcc_view;
 
-/// The arguments after the program's name. It is an error where one is no text, or for want of
+/// Returns the arguments after the program's name. Errors: an argument isn't text, or out of
 /// memory.
 fn words_of(rt: &HostRuntime) -> io::Result<Vec<String>> {
     let words: Vec<String> = env::args(rt)?.skip(1).collect(rt.alloc())?;

@@ -1,4 +1,4 @@
-//! The command line as clap's builders make it, a function for each shape.
+//! The command line as calls of clap's builders make it, a function for each shape.
 ghost use Rattle.std.specs.Prelude.{◌≡◌, IfOk, false};
 ghost use Rattle.clap.specs.Words.{app_of, rule_of};
 ghost use Rattle.clap.specs.declared.Command.TheViews.{out-Command as fields_of};
@@ -78,7 +78,7 @@ fn lists_command<'a>(alloc: Global) -> Result<Command<'a>, AllocError>
         .subcommand(added)
 }
 
-/// The same with `goals`.
+/// The command line with `list` and `goals`.
 fn goals_command<'a>(alloc: Global) -> Result<Command<'a>, AllocError>
     ensures app { IfOk result (λ c. app_of c ≡ goals_app) }
 {
@@ -86,7 +86,7 @@ fn goals_command<'a>(alloc: Global) -> Result<Command<'a>, AllocError>
     lists_command(alloc)?.subcommand(added)
 }
 
-/// The same with `packet`.
+/// The command line with `list`, `goals` and `packet`.
 fn traces_command<'a>(alloc: Global) -> Result<Command<'a>, AllocError>
     ensures app { IfOk result (λ c. app_of c ≡ traces_app) }
 {
@@ -94,7 +94,7 @@ fn traces_command<'a>(alloc: Global) -> Result<Command<'a>, AllocError>
     goals_command(alloc)?.subcommand(added)
 }
 
-/// The same with `formula`.
+/// The command line with all subcommands except `source`.
 fn formulas_command<'a>(alloc: Global) -> Result<Command<'a>, AllocError>
     ensures app { IfOk result (λ c. app_of c ≡ formulas_app) }
 {
@@ -102,7 +102,9 @@ fn formulas_command<'a>(alloc: Global) -> Result<Command<'a>, AllocError>
     traces_command(alloc)?.subcommand(added)
 }
 
-/// The whole command line.
+/// Builds the whole command line of pcc_view.
+///
+/// Errors: out of memory.
 pub fn view_command<'a>(alloc: Global) -> Result<Command<'a>, AllocError>
     ensures app { IfOk result (λ c. app_of c ≡ view_app) }
 {

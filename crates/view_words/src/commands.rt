@@ -1,4 +1,4 @@
-//! The commands of pcc_view, with their values.
+//! The commands of pcc_view, with their arguments.
 
 use pcc_words::PolicyWord;
 
@@ -7,14 +7,14 @@ use pcc_words::PolicyWord;
 pub struct ListArgs<'a> {
     /// The name of the container's file.
     pub file: &'a str,
-    /// The name of the file with the source that it was assembled from, where it is given.
+    /// The name of the source file that the container was assembled from, if it is given.
     pub source: Option<&'a str>,
 }
 
 /// The arguments of `goals`: `POLICY FILE`.
 #[derive(Clone, Copy, Debug, PartialEq, Eq)]
 pub struct GoalsArgs<'a> {
-    /// The policy, by its name or by its file's.
+    /// The policy, by its name or by its file's name.
     pub policy: PolicyWord<'a>,
     /// The name of the container's file.
     pub file: &'a str,
@@ -23,7 +23,7 @@ pub struct GoalsArgs<'a> {
 /// The arguments of `packet`: `POLICY FILE PACKETS K [--steps N]`.
 #[derive(Clone, Copy, Debug, PartialEq, Eq)]
 pub struct PacketArgs<'a> {
-    /// The policy, by its name or by its file's.
+    /// The policy, by its name or by its file's name.
     pub policy: PolicyWord<'a>,
     /// The name of the container's file.
     pub file: &'a str,
@@ -31,7 +31,7 @@ pub struct PacketArgs<'a> {
     pub packets: &'a str,
     /// The number of the packet, from 0.
     pub number: u64,
-    /// The most steps of its run.
+    /// The maximal number of steps of the packet's run.
     pub steps: u64,
 }
 
@@ -40,27 +40,27 @@ pub struct PacketArgs<'a> {
 pub struct SourceArgs<'a> {
     /// The name of the source's file.
     pub file: &'a str,
-    /// The version of the container that it is for: 3 where it has a bound, else 2 where that is
-    /// asked for, else 1.
+    /// The version of the container that the source is for: 3 if it has a step bound, else 2 if
+    /// `--v2` is given, else 1.
     pub version: u32,
-    /// That container's bound on the steps, from 1 to `MAX_BOUND` of pcc_words, if it has one.
+    /// The step bound of that container, from 1 to `MAX_BOUND` of pcc_words, if it has one.
     pub bound: Option<u32>,
 }
 
-/// A command with its values.
+/// A command with its arguments.
 #[derive(Clone, Copy, Debug, PartialEq, Eq)]
 pub enum Command<'a> {
     /// Lists a container.
     List(ListArgs<'a>),
-    /// Lists the goals of a container's condition under a policy.
+    /// Lists the goals of a container's verification condition under a policy.
     Goals(GoalsArgs<'a>),
     /// Shows the run of a packet step by step.
     Packet(PacketArgs<'a>),
-    /// Shows what is wrong with the formula in the file of this name.
+    /// Shows the formula in the file of this name, or what is wrong with it.
     Formula(&'a str),
-    /// Shows what is wrong with a source.
+    /// Shows what is in a source, or what is wrong with it.
     Source(SourceArgs<'a>),
-    /// Shows how the program is called.
+    /// Shows how to call the program.
     Help,
     /// Shows the program's version.
     Version,

@@ -1,11 +1,10 @@
-//! The command line of pcc_view, read by `clap`.
+//! Command-line parser of pcc_view, over `clap`.
 //!
-//! The layer above calls `read_arguments` and uses its one exact clause: the command that is
-//! answered is the one that the arguments are by `view_command_of`, of `specs/Invocations`. There
-//! the arguments of a command are given by clap's own definitions at the literal command line, and
-//! `--help` and `--version` are commands where they stand alone. A `ViewInvocation` is a command
-//! with its values, without where they lie in memory; `view_invocation_of` and `IsInViewRange`
-//! stand in `specs/Commands`.
+//! `read_arguments` returns a command, and its clause `exact` says which: the command that the
+//! arguments are by `view_command_of`, of `specs/Invocations`. There clap's own definitions at the
+//! literal command line give the arguments of a command; `--help` and `--version` are commands if
+//! they are the only argument. A `ViewInvocation` is a command with its values, without where they
+//! lie in memory; `view_invocation_of` and `IsInViewRange` are defined in `specs/Commands`.
 #![tactic(auto)]
 
 mod builders;
@@ -49,10 +48,10 @@ fn parsed_arguments<'a>(
     }
 }
 
-/// The command that the arguments `words` are, if they are one. The program's name is not among
-/// them.
+/// Parses the arguments `words` as a command, and returns it, or None if they aren't one. The
+/// program's name isn't among the arguments.
 ///
-/// Errors: the parse found no memory.
+/// Errors: the parse ran out of memory.
 pub fn read_arguments<'a>(
     alloc: Global,
     words: &'a [String],

@@ -1,4 +1,4 @@
-//! The largest number of a packet that a command line may have.
+//! The limit on packet numbers in a command line.
 
-/// The largest number of a packet, from 0, that may be asked for.
+/// The maximal packet number, counted from 0, that a command line may have.
 pub const MAX_PACKET_NUMBER: u64 = 4_194_304;

@@ -1,4 +1,4 @@
-//! The values of a command, from the matches of a parse.
+//! The arguments of a command, from the matches of a parse.
 ghost use Rattle.std.specs.Prelude.{◌≡◌, IfSome, Some, None, codes, if◌then◌else◌, option_and_then, option_map};
 ghost use Rattle.clap.specs.Words.{first_of, found_of, rows_of, subcommand_rows_of};
 ghost use Rattle.pcc_words.specs.Invocations.{policy_word, value_of, number_at};
@@ -59,9 +59,9 @@ fn packet_args_given<'a>(matches: &ArgMatches<'a>) -> PacketArgs<'a>
     }
 }
 
-/// The arguments, where the numbers are in their ranges. clap took no others. Its contract does not
-/// say so of the arguments of a subcommand, so the ranges are tested here again: this refuses
-/// nothing that clap takes.
+/// Returns the arguments if the numbers are in their ranges. clap accepts no others, but its
+/// contract doesn't say so for the arguments of a subcommand. So the ranges are tested here again:
+/// this refuses nothing that clap accepts.
 fn with_numbers_in_range<'a>(args: PacketArgs<'a>) -> Option<PacketArgs<'a>>
     ensures { result ≡ (if are_trace_numbers args.entry.number args.entry.steps
         then Some args.entry else None) }
@@ -73,8 +73,8 @@ fn with_numbers_in_range<'a>(args: PacketArgs<'a>) -> Option<PacketArgs<'a>>
     }
 }
 
-/// The arguments of `source`, where the bound is in its range; as of the numbers of `packet`, clap
-/// took no other.
+/// Returns the arguments of `source` if the step bound is in its range; clap accepts no other, as
+/// with the numbers of `packet`.
 fn source_args_given<'a>(matches: &ArgMatches<'a>) -> Option<SourceArgs<'a>>
     ensures exact { option_map source_of result
         ≡ source_invocation (rows_of (found_of matches.now)) }
@@ -104,7 +104,7 @@ fn command_given<'a>(name: &str, matches: &ArgMatches<'a>) -> Option<Command<'a>
     }
 }
 
-/// The command of the subcommand that was found.
+/// Returns the command of the subcommand that the parse found, or None if it isn't one.
 pub fn command_found<'a>(matches: &ArgMatches<'a>) -> Option<Command<'a>>
     ensures exact { option_map view_invocation_of result
         ≡ option_and_then view_invocation_of_subcommand (subcommand_rows_of matches.now) }

@@ -1,9 +1,10 @@
-//! Code as the bytes that the assembler writes.
+//! Theorems: the code bytes that the assembler writes decode to the code they came from.
 //!
-//! The assembler writes one word for each instruction (`pcc_asm/specs/Words`). The layer above uses
-//! that what is written for any code, wherever that comes from, is bytes that encode it and are
-//! read as it (`laws`). What code bytes encode stands in alpha_cfg's `specs/CodeBytes`. Source:
-//! Alpha Architecture Handbook, "Instruction Formats".
+//! The assembler writes one word for each instruction (`pcc_asm/specs/Words`). `laws` says that
+//! what it writes for any code, wherever the code comes from, is bytes that encode the code and are
+//! read as it. alpha_cfg's `specs/CodeBytes` defines what code bytes encode.
+//!
+//! Source: Alpha Architecture Handbook, "Instruction Formats".
 #![tactic(auto)]
 
 mod theorems;

@@ -1,4 +1,4 @@
-//! What holds of the definitions, with nothing to run.
+//! Theorems about the definitions; nothing here runs.
 
 ghost use Rattle.std.specs.Prelude.{◌≡◌, List, Ok};
 ghost use Rattle.alpha_words.specs.declared.insn.Insn.{Insn};
@@ -9,8 +9,9 @@ ghost use Rattle.term_table.specs.Bytes.{IsBytes};
 ghost use Rattle.pcc_asm.specs.Words.{code_bytes};
 ghost use Rattle.word_ops.specs.declared.Profile.{Profile};
 
-/// What is written for instructions is bytes; where they are code of a profile, the bytes encode it
-/// under that, and are read as it.
+/// States that what the assembler writes for instructions is bytes (`bytes`). If the instructions
+/// are code of a profile, the bytes encode it under that profile (`encode`), and are read as it
+/// (`read`).
 pub fn laws()
     ensures bytes { (code : List Insn) → IsBytes (code_bytes code) }
     ensures encode { (p : Profile) (code : List Insn) → IsCode code → AreOfProfile p code

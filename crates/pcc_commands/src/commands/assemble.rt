@@ -12,7 +12,7 @@ use pcc_stages::{Stop, policy_named};
 use pcc_words::AsmArgs;
 use std::alloc::Global;
 
-/// Reads the source, assembles it, and writes the container. The source is judged whole before
+/// Reads the source, assembles it, and writes the container. The whole source is checked before
 /// anything is written.
 pub fn asm_command<'a, F: Files>(
     alloc: Global,

@@ -12,7 +12,7 @@ use pcc_stages::Stop;
 use pcc_words::PathArgs;
 use std::alloc::Global;
 
-/// Reads the program, compiles it, and writes the container. The program is judged whole before
+/// Reads the program, compiles it, and writes the container. The whole program is checked before
 /// anything is written.
 pub fn bpf_command<'a, F: Files>(
     alloc: Global,

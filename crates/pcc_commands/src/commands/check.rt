@@ -1,4 +1,4 @@
-//! `check POLICY FILE`: judges a container, under a built-in policy or one that a file spells.
+//! `check POLICY FILE`: checks a container, under a built-in policy or a policy from a file.
 
 ghost use Rattle.pcc_words.specs.Commands.{word_view};
 ghost use Rattle.pcc_words.specs.Invocations.{check};
@@ -35,7 +35,7 @@ fn check_under<'a, F: Files>(
     }
 }
 
-/// Finds the policy, which may be in a file, and then reads the container and judges it.
+/// Finds the policy, which may be in a file, and then reads the container and checks it.
 pub fn check_command<'a, F: Files>(
     alloc: Global,
     args: CheckArgs<'a>,

@@ -1,4 +1,5 @@
-//! `demo N`: a source of N loads and a loop is assembled, proved, judged and run on sixteen packets.
+//! `demo N`: assembles, proves and checks a source of N loads and a loop, and runs it on 16
+//! packets.
 
 ghost use Rattle.std.specs.Prelude.{◌≡◌, ◌≤◌, ◌<◌, IfOk, Some, length};
 ghost use Rattle.packet_store.specs.declared.reader.TheConstants.{MAX_PACKET};
@@ -27,19 +28,19 @@ use policy_set::Policy;
 use safe_host::{Ended, Host};
 use std::alloc::{AllocError, Global};
 
-/// The most steps for a packet.
+/// The maximal number of steps for each packet.
 pub const DEMO_STEPS: u64 = 1_000_000;
 
-/// What runs come to.
+/// The results of runs, counted.
 #[derive(Clone, Copy, Debug, PartialEq, Eq)]
 pub struct Counts {
-    /// The steps of all, returns among them.
+    /// The number of steps of all runs (a return counts).
     pub steps: u64,
-    /// How many returned 1.
+    /// The number of runs that returned 1.
     pub ones: u64,
 }
 
-/// 1 where a run returned 1, and else 0.
+/// Returns 1 if a run returned 1, else 0.
 fn one_where(ended: Ended) -> u64
     ensures exact { result ≡ ones_of (outcome_of ended) }
     ensures few { result ≤ 1 }
@@ -69,7 +70,7 @@ fn count(host: &mut Host, packet: &[u8], budget: u64) -> Counts
     }
 }
 
-/// The same of packet `k`. Fails only for want of memory.
+/// Runs the code of the host on packet `k` of `demo n`, and counts. Errors: out of memory.
 fn count_at(
     alloc: Global,
     host: &mut Host,
@@ -89,7 +90,7 @@ fn count_at(
     Ok(count(host, &packet, budget))
 }
 
-/// The same of all packets. Fails only for want of memory.
+/// Runs the code of the host on all packets of `demo n`, and counts. Errors: out of memory.
 fn count_all(alloc: Global, host: &mut Host, n: u32, budget: u64) -> Result<Counts, AllocError>
     requires loads { n ≤ MAX_DEMO }
     requires budget { budget ≤ DEMO_STEPS }
@@ -107,7 +108,7 @@ fn count_all(alloc: Global, host: &mut Host, n: u32, budget: u64) -> Result<Coun
     Ok(all)
 }
 
-/// The same of what was accepted. Fails only for want of memory.
+/// Runs accepted code on all packets of `demo n`, and counts. Errors: out of memory.
 fn counts_of(alloc: Global, accepted: Accepted, n: u32) -> Result<Counts, AllocError>
     requires { n ≤ MAX_DEMO }
     ensures { IfOk result (λ counts. counts
@@ -119,7 +120,7 @@ fn counts_of(alloc: Global, accepted: Accepted, n: u32) -> Result<Counts, AllocE
     counts
 }
 
-/// What is told of what was accepted, once it was run.
+/// Runs accepted code, and returns the figures about it.
 fn summary(alloc: Global, accepted: Accepted, n: u32) -> Result<DemoSummary, AllocError>
     requires { n ≤ MAX_DEMO }
     ensures { IfOk result (λ told. told ≡ summary_of accepted.policy n (shown_by accepted)) }
@@ -151,7 +152,7 @@ fn proved_demo<'a>(alloc: Global, policy: &Policy, n: u32) -> Result<Vec<u8>, St
     proved_in(alloc, policy, &container)
 }
 
-/// What is told of it, once it was judged and run.
+/// Makes, proves, checks and runs the container of `demo n`, and returns the figures about it.
 fn told<'a>(alloc: Global, policy: &Policy, n: u32) -> Result<DemoSummary, Stop<'a>>
     requires { n ≤ MAX_DEMO }
     ensures { GivesPure (λ told. told) (demo_told policy.now n) result }
@@ -181,7 +182,7 @@ fn report<'a>(alloc: Global, policy: &Policy, n: u32) -> Result<Report, Stop<'a>
     }
 }
 
-/// Makes the source, proves it, judges it and runs it; all memory is taken before the first line.
+/// Makes the source, proves it, checks it and runs it; takes all memory before the first line.
 pub fn demo_command<'a, F: Files>(alloc: Global, n: u64, files: &mut F) -> Result<Report, Stop<'a>>
     requires { n ≤ MAX_DEMO }
     ensures { Decides report_exit (stage_of (demo n))

@@ -56,8 +56,8 @@ fn agent_policy<'a>(alloc: Global, agent: u32, name: &str) -> Result<Policy, Sto
     }
 }
 
-/// The bytes of the file of the name that a script has for the agent; `too_long` where it has more
-/// than `MAX_FILE`.
+/// Reads the bytes of the file that a script names for the agent; stops with `too_long` if it has
+/// more than `MAX_FILE`.
 fn agent_bytes<'a, F: Files>(
     alloc: Global,
     agent: u32,
@@ -82,7 +82,7 @@ fn agent_bytes<'a, F: Files>(
     }
 }
 
-/// A line of the gate, told of the agent.
+/// Returns a refusal by the gate as a stop for the agent.
 fn line_of<'a>(agent: u32, line: RefusedLine) -> Stop<'a>
     requires { IsOfGate (stops.Refused line) }
     ensures { end_of result ≡ Some (hosting.told_of agent (refused (refused_text line))) }
@@ -95,7 +95,7 @@ fn line_of<'a>(agent: u32, line: RefusedLine) -> Stop<'a>
     }
 }
 
-/// A stop of the gate, told of the agent.
+/// Returns a stop by the gate as a stop for the agent.
 fn told_of<'a>(agent: u32, stop: &Stop<'_>) -> Stop<'a>
     requires { IsOfGate stop.now }
     ensures { end_of result ≡ option_map (hosting.told_of agent) (end_of stop.now) }
@@ -106,7 +106,7 @@ fn told_of<'a>(agent: u32, stop: &Stop<'_>) -> Stop<'a>
     }
 }
 
-/// What the agent's container holds, where it is accepted under the policy.
+/// Checks the agent's container under the policy, and returns what was accepted.
 fn agent_code<'a, F: Files>(
     alloc: Global,
     agent: u32,
@@ -126,7 +126,7 @@ fn agent_code<'a, F: Files>(
     }
 }
 
-/// The packet, where it isn't short for the policy.
+/// Returns the packet if it isn't too short for the policy.
 fn whole_packet<'a>(
     alloc: Global,
     agent: u32,
@@ -149,7 +149,7 @@ fn whole_packet<'a>(
     }
 }
 
-/// The first packet of the file, where it isn't short for the policy.
+/// Returns the first packet of the file if it isn't too short for the policy.
 fn first_packet<'a>(
     alloc: Global,
     agent: u32,
@@ -189,7 +189,7 @@ fn agent_packet<'a, F: Files>(
     }
 }
 
-/// Reads what the load names behind its policy, and judges it.
+/// Reads the files that the load names after its policy, and checks them.
 fn member_under<'a, F: Files>(
     alloc: Global,
     agent: u32,
@@ -291,7 +291,7 @@ fn job_of(alloc: Global, members: Vec<Admitted>, turns: Vec<Turn>) -> Result<Tur
     })
 }
 
-/// Reads the script, then what each load names; all memory is taken before the first line.
+/// Reads the script, then the files that each load names; takes all memory before the first line.
 pub fn host_command<'a, F: Files>(
     alloc: Global,
     script: &'a str,

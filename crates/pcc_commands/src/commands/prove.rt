@@ -1,4 +1,4 @@
-//! `prove POLICY IN OUT`: makes of a container one with a proof.
+//! `prove POLICY IN OUT`: adds a proof to a container.
 
 ghost use Rattle.pcc_words.specs.Invocations.{prove};
 ghost use Rattle.pcc_stages.specs.Decisions.{Decides};
@@ -12,8 +12,8 @@ use pcc_stages::{Stop, policy_named};
 use pcc_words::CopyArgs;
 use std::alloc::Global;
 
-/// Reads the container, looks for a proof of its condition, and writes the container with the proof.
-/// Nothing is written before there is one.
+/// Reads the container, searches for a proof of its verification condition, and writes the
+/// container with the proof. Writes nothing before there is a proof.
 pub fn prove_command<'a, F: Files>(
     alloc: Global,
     args: CopyArgs<'a>,

@@ -48,7 +48,7 @@ fn results_of<'a, F: Files>(
     }
 }
 
-/// Reads the container and the packets, and reserves all that the runs need.
+/// Reads the container and the packets, and reserves all memory that the runs need.
 pub fn ref_command<'a, F: Files>(
     alloc: Global,
     args: RunArgs<'a>,

@@ -21,7 +21,7 @@ use policy_set::Policy;
 use safe_host::{Host, HostRunner};
 use std::alloc::Global;
 
-/// What runs accepted code, with the arena reserved; None where there is no memory for it.
+/// Returns a runner of accepted code, with the arena reserved; None if it is out of memory.
 fn runner_of(alloc: Global, accepted: Accepted, steps: u64) -> Option<HostRunner>
     ensures { IfSome result (λ runner. host_results runner
         ≡ packet_result accepted.policy accepted.code steps) }
@@ -76,7 +76,8 @@ fn run_under<'a, F: Files>(
     results_of(alloc, accepted, args, files)
 }
 
-/// Reads the container and judges it, reads the packets, and reserves all that the runs need.
+/// Reads the container and checks it, reads the packets, and reserves all memory that the runs
+/// need.
 pub fn run_command<'a, F: Files>(
     alloc: Global,
     args: RunArgs<'a>,

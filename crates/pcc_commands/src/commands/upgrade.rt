@@ -1,4 +1,4 @@
-//! `upgrade IN OUT`: makes of a container of version 1 one of version 2.
+//! `upgrade IN OUT`: makes a container of version 2 from one of version 1.
 
 ghost use Rattle.pcc_words.specs.Invocations.{upgrade};
 ghost use Rattle.pcc_stages.specs.Decisions.{Decides};
@@ -12,7 +12,7 @@ use pcc_stages::Stop;
 use pcc_words::PathArgs;
 use std::alloc::Global;
 
-/// Reads the container, upgrades it, and writes what it is upgraded to. The container is read whole
+/// Reads the container, upgrades it, and writes the upgraded container. The whole container is read
 /// before anything is written.
 pub fn upgrade_command<'a, F: Files>(
     alloc: Global,

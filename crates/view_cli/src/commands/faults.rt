@@ -1,4 +1,5 @@
-//! `formula FILE`, and `source FILE [--v2] [--bound N]`: shows what is wrong with a text.
+//! `formula FILE`, and `source FILE [--v2] [--bound N]`: shows what a text is, or what is wrong
+//! with it.
 
 ghost use Rattle.std.specs.Prelude.{◌≡◌, ◌≤◌, length, IfOk};
 ghost use Rattle.asm_text.specs.declared.limits.TheConstants.{MAX_SOURCE};
@@ -20,7 +21,7 @@ use pcc_stages::{RefusedLine, Stop, bytes_of};
 use std::alloc::Global;
 use view_words::SourceArgs;
 
-/// The text in the file of the name.
+/// Reads the text in the file with this name.
 pub fn text_of<'a, F: Files>(
     alloc: Global,
     name: &'a str,
@@ -81,7 +82,7 @@ fn source_told<'a>(
     }
 }
 
-/// Reads the text, and says what is wrong with it as a formula's.
+/// Reads the text, and reports which formula it is, or what is wrong with it.
 pub fn formula_command<'a, F: Files>(
     alloc: Global,
     name: &'a str,
@@ -94,7 +95,7 @@ pub fn formula_command<'a, F: Files>(
     formula_told(alloc, &text)
 }
 
-/// Reads the text, and says what is wrong with it as a source's.
+/// Reads the text, and reports what is in the source that it is, or what is wrong with it.
 pub fn source_command<'a, F: Files>(
     alloc: Global,
     args: SourceArgs<'a>,

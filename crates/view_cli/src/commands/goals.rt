@@ -1,4 +1,4 @@
-//! `goals POLICY FILE`: shows the condition of a container goal by goal.
+//! `goals POLICY FILE`: shows the verification condition of a container, goal by goal.
 
 ghost use Rattle.pcc_words.specs.Commands.{word_view};
 ghost use Rattle.pcc_stages.specs.Answers.{Gives, GivesPure};

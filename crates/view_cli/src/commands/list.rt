@@ -73,7 +73,7 @@ fn lines_in<'a>(
     }
 }
 
-/// The same of the file of the name, if there is one.
+/// Returns the line numbers of the source in the file with this name, or none if no name is given.
 #[tactic(auto, unfolding(crate::specs::Commands::List::source_lines_of))]
 fn lines_of<'a, F: Files>(
     alloc: Global,
@@ -109,7 +109,7 @@ fn listed<'a>(alloc: Global, bytes: &[u8], lines: &[u32]) -> Result<Report, Stop
     }
 }
 
-/// Reads the container, and the source where it is given, and lists the container.
+/// Reads the container, and the source if it is given, and lists the container.
 pub fn list_command<'a, F: Files>(
     alloc: Global,
     args: ListArgs<'a>,

@@ -63,7 +63,7 @@ fn traced<'a>(
     }
 }
 
-/// Reads the container and the packets, and reserves all that the run needs.
+/// Reads the container and the packets, and reserves all memory that the run needs.
 pub fn packet_command<'a, F: Files>(
     alloc: Global,
     args: PacketArgs<'a>,
