@@ -266,3 +266,23 @@ def implementations(top: str) -> Dict[str, List[str]]:
                 if block.of_type in names and block.of_trait:
                     found.setdefault(block.of_trait, []).append(block.of_type)
     return found
+
+
+def cell(text: str) -> str:
+    """Returns the text as a cell of a Markdown table has it."""
+    parts = re.split(r"(`[^`]*`)", text.replace("|", "\\|"))
+    return "".join(part if at % 2 else part.replace("<", "&lt;") for at, part in enumerate(parts))
+
+
+def write_or_check(page: str, text: str, is_check: bool, command: str) -> int:
+    """Writes a page, a path from the top, or only compares it with the text. Returns the exit status."""
+    path = os.path.join(TOP, page)
+    is_same = os.path.exists(path) and read(path) == text
+    if is_check and not is_same:
+        print("%s isn't up to date: run %s and commit the page" % (page, command))
+        return 1
+    if not is_same:
+        with open(path, "w", encoding="utf-8") as file:
+            file.write(text)
+    print("%s: %s" % (page, "up to date" if is_same else "written"))
+    return 0
