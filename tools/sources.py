@@ -243,6 +243,20 @@ def public_functions(path: str, names: Set[str]) -> Iterator[Function]:
         )
 
 
+def public_names(top: str, crate: str) -> Set[str]:
+    """Returns the names that the crate makes public; none if it is a program."""
+    path = root_file(top, crate)
+    return exported(os.path.dirname(path)) if path.endswith("lib.rt") else set()
+
+
+def crate_functions(top: str, crate: str) -> Iterator[Tuple[str, Function]]:
+    """Yields the public functions of a crate, each with the path of its file."""
+    names = public_names(top, crate)
+    for path in source_files(top, crate) if names else ():
+        for function in public_functions(path, names):
+            yield path, function
+
+
 def public_traits(path: str, names: Set[str]) -> Iterator[Trait]:
     """Yields the public traits of a file."""
     lines = read(path).split("\n")
@@ -255,17 +269,16 @@ def public_traits(path: str, names: Set[str]) -> Iterator[Trait]:
 
 
 def implementations(top: str) -> Dict[str, List[str]]:
-    """Returns for each trait the public types of the repository that implement it, in the order of crates."""
-    found: Dict[str, List[str]] = {}
+    """Returns for each trait the public types of the repository that implement it, in the order of their names."""
+    found: Dict[str, Set[str]] = {}
+    public: Set[str] = set()
     for crate in sorted(os.listdir(os.path.join(top, "crates"))):
-        source = os.path.join(top, "crates", crate, "src")
-        names = exported(source) if os.path.exists(os.path.join(source, "lib.rt")) else set()
+        public |= public_names(top, crate)
         for path in source_files(top, crate):
-            for line in read(path).split("\n"):
-                block = opened(line)
-                if block.of_type in names and block.of_trait:
-                    found.setdefault(block.of_trait, []).append(block.of_type)
-    return found
+            for block in map(opened, read(path).split("\n")):
+                if block.of_type and block.of_trait:
+                    found.setdefault(block.of_trait, set()).add(block.of_type)
+    return {name: sorted(types & public) for name, types in found.items()}
 
 
 def cell(text: str) -> str:
