@@ -116,6 +116,12 @@ def root_file(top: str, crate: str) -> str:
     return next((path for path in paths if os.path.exists(path)), "")
 
 
+def is_of_tests(top: str, path: str) -> bool:
+    """Tells whether a file is of tests: of a crate named test_*, or itself named so, or with a name that ends in tests."""
+    parts = os.path.relpath(path, os.path.join(top, "crates")).split(os.sep)
+    return any(part.startswith("test_") for part in (parts[0], parts[-1])) or parts[-1].endswith("tests.rt")
+
+
 def source_files(top: str, crate: str) -> List[str]:
     """Returns the crate's files of code: lib.rt first, theorems.rt last, the others by name."""
     found = glob.glob(os.path.join(top, "crates", crate, "src", "**", "*.rt"), recursive=True)
@@ -165,15 +171,18 @@ def doc_sentence(lines: List[str], at: int) -> str:
     return re.sub(r"\[(`[^`]*`)\](?!\()", r"\1", sentence)
 
 
-def exported(source: str) -> Set[str]:
-    """Returns the names that lib.rt of this folder makes public, its own and those of its modules."""
-    lib = read(os.path.join(source, "lib.rt"))
-    names = set(re.findall(r"^pub %s (\w+)" % ITEM, lib, re.M))
-    for many, one in re.findall(r"^pub use [\w:]+::(?:\{([^}]*)\}|(\w+));", lib, re.M):
+def exported(path: str) -> Set[str]:
+    """Returns the names that a file (lib.rt, as a rule) makes public: its own, those that it gives on of its modules,
+    and all that its public modules make public."""
+    text = read(path)
+    names = set(re.findall(r"^pub %s (\w+)" % ITEM, text, re.M))
+    for many, one in re.findall(r"^pub use [\w:]+::(?:\{([^}]*)\}|(\w+));", text, re.M):
         names |= set(re.findall(r"\w+", many or one))
-    for module in re.findall(r"^pub mod (\w+);", lib, re.M):
-        text = read(os.path.join(source, module + ".rt"))
-        names |= set(re.findall(r"^pub %s (\w+)" % ITEM, text, re.M))
+    stem, name = os.path.splitext(path)[0], os.path.basename(path)
+    folder = os.path.dirname(path) if name in ("lib.rt", "mod.rt") else stem
+    for module in re.findall(r"^pub mod (\w+);", text, re.M):
+        for inner in (os.path.join(folder, module + ".rt"), os.path.join(folder, module, "mod.rt")):
+            names |= exported(inner) if os.path.exists(inner) else set()
     return names
 
 
@@ -191,20 +200,25 @@ def opened(line: str) -> Block:
     return Block(names[names.index("for") + 1], names[0]) if "for" in names else Block(names[0])
 
 
-def contract_of(lines: List[str], at: int) -> str:
-    """Returns the lines of the clauses of the function whose head is line `at`, up to its body."""
-    kept: List[str] = []
+def head_end(lines: List[str], at: int) -> int:
+    """Returns the line that ends the head of the function at line `at`: the one where its body begins, or the one with
+    the semicolon of a function without a body."""
     depth = 0
-    for line in lines[at:]:
+    for number in range(at, len(lines)):
+        line = lines[number]
         is_clause = depth > 0 or CLAUSE.match(line) is not None
-        if not is_clause and ("{" in line or line.endswith(";")):
-            break
         if is_clause:
-            kept.append(line)
             depth += line.count("{") - line.count("}")
-        if depth == 0 and line.endswith(";"):
-            break
-    return "\n".join(kept)
+        if depth == 0 and line.endswith(";") or not is_clause and "{" in line:
+            return number
+    return len(lines) - 1
+
+
+def contract_of(lines: List[str], at: int) -> str:
+    """Returns the lines from the first clause of the function at line `at` to the end of its head."""
+    head = "\n".join(lines[at : head_end(lines, at) + 1])
+    begin = CLAUSE.search(head)
+    return head[begin.start() :] if begin else ""
 
 
 def clauses_of(contract: str) -> Iterator[Clause]:
@@ -246,7 +260,7 @@ def public_functions(path: str, names: Set[str]) -> Iterator[Function]:
 def public_names(top: str, crate: str) -> Set[str]:
     """Returns the names that the crate makes public; none if it is a program."""
     path = root_file(top, crate)
-    return exported(os.path.dirname(path)) if path.endswith("lib.rt") else set()
+    return exported(path) if path.endswith("lib.rt") else set()
 
 
 def crate_functions(top: str, crate: str) -> Iterator[Tuple[str, Function]]:
