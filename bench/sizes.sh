@@ -1,49 +1,59 @@
 #!/usr/bin/env bash
-# Prints the table of sizes in docs/FIGURES.md: lines of code, tests, definitions and proofs of each
-# crate of crates.txt, its functions and clauses, its tests and must-fail edits.
-set -eu
-cd "$(dirname "${BASH_SOURCE[0]}")/../crates"
+# Prints a table of sizes, a row a crate in the order of crates.txt.
+#
+# usage: bench/sizes.sh
+#
+# src, test files, specs and proofs are lines of files. Test files are *tests.rt and test_*.rt, and all code of a crate
+# named test_*. Functions (`fn`), clauses (`ensures`) and tests (`#[test]`) are counted in lines of code, functions and
+# clauses without those of test files. Edits are the files of must-fail/.
+set -u
+case ${1-} in
+  '') ;;
+  -h | --help) sed -n '2,/^set/ { s/^# \{0,1\}//; /^set/d; p; }' "${BASH_SOURCE[0]}"; exit 0 ;;
+  *) echo "sizes.sh takes no words, but --help; it was given: $*" >&2; exit 2 ;;
+esac
+cd "$(dirname "${BASH_SOURCE[0]}")/../crates" || exit 1
 
-# The lines of the files below a folder whose names match, or 0.
-lines_of() {
-  { find "$1" -type f -name "$2" -exec cat {} + 2> /dev/null || true; } | wc -l
+# Each line of the crates' texts, after its file's path and a tab.
+lines() {
+  find . -name out -prune -o -type f \( -path '*/src/*.rt' -o -path '*/specs/*.antt' -o -path '*/proofs/*.antt' \
+    -o -path '*/must-fail/*.edit' \) -print0 | xargs -0 awk '{ print FILENAME "\t" $0 }'
 }
 
-# The lines of the files of tests, and of what several of them use; of a crate of tests, all lines.
-test_lines_of() {
-  case $1 in
-    *_tests/src) lines_of "$1" '*.rt' ;;
-    *) echo $(($(lines_of "$1" '*tests.rt') + $(lines_of "$1" 'test_*.rt'))) ;;
-  esac
-}
-
-# How many lines of the crate's code match, its test files included or not.
-count_of() {
-  { find "$1/src" -type f -name '*.rt' ! -path "${3-}" ! -path "${4-}" -exec cat {} + || true; } |
-    grep -cE "$2" || true
-}
-
-edits_of() {
-  { find "$1/must-fail" -type f -name '*.edit' 2> /dev/null || true; } | wc -l
-}
-
-echo '| crate | src | test files | specs | proofs | functions | clauses | tests | edits |'
-echo '|---|---|---|---|---|---|---|---|---|'
-sed 's/#.*//; s/:.*//' ../crates.txt | grep . | while read -r crate _; do
-  echo "$crate" \
-    "$(($(lines_of "$crate/src" '*.rt') - $(test_lines_of "$crate/src")))" \
-    "$(test_lines_of "$crate/src")" \
-    "$(lines_of "$crate/specs" '*.antt')" "$(lines_of "$crate/proofs" '*.antt')" \
-    "$(count_of "$crate" '^ *(pub )?fn ' '*tests*' '*/test_*')" \
-    "$(count_of "$crate" '^ *ensures' '*tests*' '*/test_*')" \
-    "$(count_of "$crate" '#\[test\]')" "$(edits_of "$crate")"
-done | awk '{
-  printf "| %s |", $1
-  for (i = 2; i <= 9; i++) { printf " %d |", $i; sum[i] += $i }
-  print ""
-}
-END {
-  printf "| all |"
-  for (i = 2; i <= 9; i++) printf " %d |", sum[i]
-  print ""
-}'
+lines | awk -F '\t' '
+  BEGIN {
+    while ((getline line < "../crates.txt") > 0) {
+      sub(/#.*/, "", line)
+      if (line ~ /:/) { sub(/[ :].*/, "", line); order[++crates] = line }
+    }
+  }
+  {
+    split($1, part, "/")
+    crate = part[2]; kind = part[3]; text = substr($0, length($1) + 2)
+    if (kind == "must-fail") { if (!($1 in seen)) { seen[$1] = 1; size[crate, "edits"]++ }; next }
+    if (kind != "src") { size[crate, kind]++; next }
+    is_test = crate ~ /^test_/ || $1 ~ /tests\.rt$/ || $1 ~ /\/test_[^\/]*\.rt$/
+    size[crate, is_test ? "test files" : "src"]++
+    if (text ~ /#\[test\]/) size[crate, "tests"]++
+    if (is_test) next
+    if (text ~ /^ *(pub )?fn /) size[crate, "functions"]++
+    if (text ~ /^ *ensures/) size[crate, "clauses"]++
+  }
+  function row(name, values, at, line) {
+    line = "| " name " |"
+    for (at = 1; at <= 8; at++) line = line " " (values[columns[at]] + 0) " |"
+    print line
+  }
+  END {
+    split("src|test files|specs|proofs|functions|clauses|tests|edits", columns, "|")
+    print "| crate | src | test files | specs | proofs | functions | clauses | tests | edits |"
+    print "|---|---|---|---|---|---|---|---|---|"
+    for (at = 1; at <= crates; at++) {
+      for (of = 1; of <= 8; of++) {
+        values[columns[of]] = size[order[at], columns[of]]
+        sums[columns[of]] += values[columns[of]]
+      }
+      row(order[at], values)
+    }
+    row("all", sums)
+  }'
