@@ -1,8 +1,8 @@
-//! Results that are kept, so that a part that stands in many places is gone through once.
+//! Cached results, so that a shared subtree is visited once.
 //!
-//! Only results are kept, and that a tree isn't known to be lowered; a missing result ends the call
-//! that asked for it. Rows are found by an ordered map of numbers, so that no choice of ids makes them
-//! slow to find. They are asked for and kept beside the table whose ids they speak of.
+//! Only results are cached, and that a tree isn't known to be lowered; a missing result ends the
+//! call that asked for it. Rows are found by an ordered map of numbers, so that no choice of ids
+//! makes them slow to find. They are kept outside the table whose ids they name.
 
 ghost use Rattle.std.specs.Prelude.{◌≡◌, ◌+◌, IfSome, OnOk};
 ghost use Rattle.term_table.specs.Table.{TableView, IsKnown};
@@ -15,7 +15,7 @@ use std::alloc::Global;
 use std::collections::BTreeMap;
 use term_table::{Id, Table};
 
-/// So many steps that keep nothing count as one result.
+/// How many steps that cache nothing count as one result.
 pub const STEPS_A_RESULT: u64 = 16;
 
 /// What is asked of a tree, by ids and counts.
@@ -51,8 +51,8 @@ pub(crate) struct Atom {
     pub(crate) met: Option<Id>,
 }
 
-/// Results of shifts and substitutions on one table, up to a limit that results kept elsewhere can
-/// count in too.
+/// Cached results of shifts and substitutions on one table, up to a limit. Results that are cached
+/// elsewhere may count towards the limit too.
 #[derive(Drop)]
 pub struct Memo {
     rows: BTreeMap<Question, Row>,
@@ -105,8 +105,8 @@ fn row_of(term: Id, met: Option<Id>) -> Row
 }
 
 impl Memo {
-    /// A memo without results, which takes no memory yet. A call that would keep more than `left`
-    /// results, with those that `spend` counts, answers `Results`.
+    /// Returns an empty memo, which allocates nothing yet. A call that would cache more than `left`
+    /// results, counting those of `spend`, returns `Results`.
     pub fn new(alloc: Global, left: usize) -> Memo
         ensures memo { (t : TableView) → IsMemo t result }
         ensures left { left_of result ≡ left }
@@ -117,7 +117,9 @@ impl Memo {
         }
     }
 
-    /// Counts a result that is kept elsewhere. Fails past the limit, by `Results`.
+    /// Counts a result that is cached elsewhere.
+    ///
+    /// Errors: `Results` past the limit.
     pub fn spend(&mut self) -> Result<(), Exhausted>
         ensures memo { (t : TableView) → IsMemo t self.old → IsMemo t self.new }
         ensures left { Counts 1 self.old self.new result }
@@ -129,8 +131,9 @@ impl Memo {
         Ok(())
     }
 
-    /// Counts steps that keep nothing: each call as a result, and each 16 steps as another. Fails past
-    /// the limit, by `Results`.
+    /// Counts `steps` steps that cache nothing: one result for the call, and one for each 16 steps.
+    ///
+    /// Errors: `Results` past the limit.
     pub fn spend_steps(&mut self, steps: u64) -> Result<(), Exhausted>
         ensures memo { (t : TableView) → IsMemo t self.old → IsMemo t self.new }
         ensures left { Counts (results_of steps) self.old self.new result }

@@ -1,4 +1,4 @@
-//! Shifting a tree of a table, and lowering what was shifted.
+//! Shifting a tree of a table, and lowering a shifted tree again.
 
 ghost use Rattle.std.specs.Prelude.{◌≡◌, ◌<◌, ◌≤◌, ◌+◌, ◌^◌, true, false, IfOk, IsTrue, OnOk};
 ghost use Rattle.term_table.specs.Tree.{shifted, Var};

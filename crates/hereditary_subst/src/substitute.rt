@@ -1,6 +1,6 @@
-//! Substitution, by what an atomic term's head is: with a term for the variable at its head it goes
-//! on at the simple type that remains, and with another head it is put together again. A simple type
-//! goes by the id of a type that erases to it.
+//! Hereditary substitution, by the head of an atomic term. If the head is the variable, it goes on
+//! at the simple type that remains; with another head the term is rebuilt. A simple type is passed
+//! as the id of a type that erases to it.
 
 ghost use Rattle.std.specs.Prelude.{◌≡◌, ◌<◌, ◌≤◌, ◌+◌, ◌^◌, IfOk, IsTrue, true, OnOk};
 ghost use Rattle.term_table.specs.Tree.{App, Lam, Pi, Var};
