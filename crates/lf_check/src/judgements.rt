@@ -1,9 +1,9 @@
-//! Judgements that are kept, so that a term that stands in many places is judged once where the
-//! variables that it uses have the same types (`contexts.rt` finds the context in which it was).
+//! Cached judgements, so that a shared term is checked once if the variables that it uses have the
+//! same types (`contexts.rt` finds the context in which it was checked).
 //!
-//! Only what holds is kept: what doesn't hold ends the call. A context is an id of the table too
-//! (`specs/Lists`), so equal contexts are equal ids. Rows are found by an ordered map
-//! of numbers, so that no choice of ids makes them slow to find.
+//! Only judgements that hold are cached: one that doesn't hold ends the call. A context is an id of
+//! the table too (`specs/Lists`), so equal contexts have equal ids. Rows are found by an ordered
+//! map of numbers, so that no choice of ids makes them slow to find.
 
 ghost use Rattle.std.specs.Prelude.{◌≡◌, ◌+◌, ◌/◌, ◌^◌, ◌-◌, ◌≤◌, min, IfSome, OnOk, Option};
 ghost use Rattle.term_table.specs.Tree.{Tree, Const};
@@ -18,7 +18,7 @@ use std::alloc::Global;
 use std::collections::BTreeMap;
 use term_table::{Id, Table};
 
-/// So many steps along contexts, which keep nothing, count as one judgement.
+/// How many steps along contexts, which cache nothing, count as one judgement.
 pub const STEPS_A_JUDGEMENT: u64 = 64;
 
 /// What is asked of a term or type, by ids.
@@ -48,10 +48,11 @@ pub(crate) struct Found {
     pub(crate) context: Id,
 }
 
-/// Results and judgements on one table and signature, all up to one limit.
+/// Cached results and judgements on one table and signature, up to one limit for all.
 #[derive(Drop)]
 pub struct Kept {
-    /// Results of shifts and substitutions on the table. Its limit is that of the judgements too.
+    /// Cached results of shifts and substitutions on the table. Its limit is the judgements' limit
+    /// too.
     pub memo: Memo,
     rows: BTreeMap<Question, Row>,
     // along contexts, with their limit in judgements
@@ -89,8 +90,9 @@ fn row_of(answer: Id, context: Id) -> Row
 }
 
 impl Kept {
-    /// Nothing kept yet, which takes no memory. A call that would keep more than `limit` results of
-    /// shifts and substitutions and judgements, counted together, answers `Results`.
+    /// Returns an empty cache, which allocates nothing yet. A call that would cache more than
+    /// `limit` results of shifts, substitutions and judgements, counted together, returns
+    /// `Results`.
     pub fn new(alloc: Global, limit: usize) -> Kept
         ensures kept { (sig : Const → Option Tree) (t : TableView) → AreKept sig t result }
         ensures left { left_of result.memo ≡ limit }

@@ -1,5 +1,5 @@
-//! Terms checked at types and types synthesised. A judgement that was found in one context answers
-//! in each other that gives the variables that the term uses the same types.
+//! Checks terms against types and synthesises types. A judgement found in one context also holds in
+//! each context that gives the variables that the term uses the same types.
 
 ghost use Rattle.std.specs.Prelude.{◌≡◌, true, false, ◌<◌, ◌≤◌, ◌+◌, ◌^◌, IfOk, IsTrue};
 ghost use Rattle.term_table.specs.Tree.{at, App, Lam, Pi};
