@@ -1,4 +1,4 @@
-//! The sequent of a rule's conclusion.
+//! Builds the sequent of a rule's conclusion.
 
 ghost use Rattle.std.specs.Prelude.{◌≡◌, ◌≤◌, ◌<◌, ◌+◌, ◌^◌, IfOk, IsTrue, map, length};
 ghost use Rattle.term_table.specs.Tree.{apps};
@@ -98,7 +98,10 @@ fn with_proofs(
     }
 }
 
-/// The sequent of the conclusion of the rule of this number, at these parameters and premises.
+/// Returns the sequent of the conclusion of the rule with this number, at these parameters and
+/// premises, under the hypotheses `hyps`: None if they don't have the rule's form.
+///
+/// Errors: out of memory; each id keeps its tree.
 pub fn by_rule<S: Known>(
     alloc: Global,
     table: &mut Table,
