@@ -1,4 +1,4 @@
-//! From terms to formulas, and which terms are formulas.
+//! Decodes terms to formulas, and checks which terms are formulas.
 
 ghost use Rattle.std.specs.Prelude.{◌≡◌, ◌↔◌, suc, ◌+◌, ◌^◌, ◌<◌, max, IfOk, IsTrue, MatchOption};
 ghost use Rattle.term_table.specs.Tree.{App, Fam};
@@ -48,10 +48,10 @@ fn context_types(alloc: Global, table: &mut Table, ctx: &[Sort]) -> Result<Vec<I
     Ok(types)
 }
 
-/// Answers whether the term `id` has type form in the context `ctx` of word and memory variables,
-/// the nearest last: whether it is the encoding of a formula over `ctx`.
+/// Returns whether the term `id` is a well-typed formula in the context `ctx` of word and memory
+/// variables, the nearest last: whether it is the encoding of a formula over `ctx`.
 ///
-/// Errors: want of memory alone; each id keeps its tree.
+/// Errors: out of memory alone; each id keeps its tree.
 pub fn is_form<S: Known>(
     table: &mut Table,
     sig: &S,
@@ -299,11 +299,11 @@ fn decode_joined(
     }
 }
 
-/// Answers the formula over `ctx`, of the operators of `sig` and without register 31, of which the
-/// term `id` is the encoding: None exactly where the term hasn't type form over `sig` in that
+/// Returns the formula that the term `id` encodes over `ctx`: it has operators of `sig` alone and
+/// no register 31. Returns None exactly if the term isn't a well-typed formula over `sig` in that
 /// context of word and memory variables, the nearest last.
 ///
-/// Errors: want of memory alone; each id keeps its tree.
+/// Errors: out of memory alone; each id keeps its tree.
 pub fn form_of<S: Known>(
     table: &mut Table,
     sig: &S,
