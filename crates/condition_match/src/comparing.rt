@@ -1,8 +1,7 @@
-//! The walk over code against a formula that is given: whether that is what the walk would make.
+//! The walk over code against a given formula: whether the walk would build that formula.
 //!
-//! It goes as the walk of `vcgen` that makes terms does, with the part of the formula that has to
-//! stand there in its hand, and ends at the first difference. No invariant is written out with its
-//! terms.
+//! It proceeds as the walk of `vcgen` that builds terms does. It holds the subformula that has to
+//! be at the current place, and ends at the first difference. It substitutes into no invariant.
 
 ghost use Rattle.std.specs.Prelude.{◌≡◌, ◌↔◌, ◌<◌, IfOk, IsTrue, None, length, slice_get};
 ghost use Rattle.word_ops.specs.declared.Rel.TheVariants.{Ult};

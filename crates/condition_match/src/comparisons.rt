@@ -1,7 +1,8 @@
-//! What comparisons keep: results of the terms that a walk has now, and of terms of a walk before.
+//! Cached results of comparisons: results for the terms that a walk has now, and for terms of an
+//! earlier walk.
 //!
-//! The parts of many invariants make the same terms again, as where each has one instruction; then
-//! what is alike in the invariants is gone through once.
+//! The obligations of many cut points make equal terms again, for example if each has one
+//! instruction; then what is alike in the invariants is compared once.
 
 ghost use Rattle.std.specs.Prelude.{◌≡◌, ◌↔◌, ◌<◌, ◌^◌, IfOk, IsTrue};
 ghost use Rattle.term_table.specs.Table.{IsKnown, tree_at, Extends};

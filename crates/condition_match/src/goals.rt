@@ -1,4 +1,4 @@
-//! Formulas taken apart: connectives, and quantifiers over all of the machine.
+//! Takes formulas apart: connectives, and quantifiers over the whole machine state.
 
 ghost use Rattle.std.specs.Prelude.{◌≡◌, ◌↔◌, IsTrue};
 ghost use Rattle.term_table.specs.Tree.{Con, Num, Lam};

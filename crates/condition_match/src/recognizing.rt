@@ -1,8 +1,8 @@
-//! Whether a formula is the verification condition.
+//! Checks whether a formula is the verification condition.
 //!
-//! The formula is taken apart as the condition would be put together, and compared part by part; the
-//! first difference ends it. No part is written out: what a stranger's code would make of a stranger's
-//! invariants costs no more than the formula has of it.
+//! The formula is taken apart as the condition would be put together, and compared part by part;
+//! the first difference ends the comparison. No part is built: whatever an untrusted producer's
+//! code would make of its invariants costs no more than the formula contains of it.
 
 ghost use Rattle.std.specs.Prelude.{◌≡◌, ◌↔◌, ℕ, ◌<◌, ◌≤◌, IfOk, IsTrue, length, drop, map, All};
 ghost use Rattle.alpha_cfg.specs.Cuts.{AreFlags};
@@ -219,15 +219,16 @@ fn is_encoded_condition(
     is_condition_of(table, shifts, &program, pre, goal)
 }
 
-/// Whether `formula` is what `vcgen::vc` gives of `cut`, `policy`, `invs` and `bound`, as the
-/// arguments stand there: the encoding of the verification condition of `cut` under `policy` and
-/// `bound`. The condition isn't written out, and the first difference ends the comparison.
+/// Returns whether `formula` is the encoding of the verification condition of `cut` under `policy`
+/// and `bound`: what `vcgen::vc` returns for `cut`, `policy`, `invs` and `bound`, which are as in
+/// that call. Doesn't build the condition; the first difference ends the comparison.
 ///
-/// `memo` has the results of earlier calls on the table; what is kept here counts in its limit.
+/// `memo` has the cached results of earlier calls on the table; results that are cached here count
+/// in its limit.
 ///
-/// Errors: `UnfoldLimit` names the unfolded length exactly where it exceeds `vcgen::MAX_UNFOLDED`,
-/// which is tested first; `Memory` says nothing of the condition, nor does `Results`, past the limit of
-/// `memo`. Each id keeps its tree.
+/// Errors: `UnfoldLimit` names the total length of the paths between cut points exactly if it
+/// exceeds `vcgen::MAX_UNFOLDED`, which is tested first. `Memory` says nothing about the condition,
+/// nor does `Results`, which comes past the limit of `memo`. Each id keeps its tree.
 pub fn is_condition_with(
     table: &mut Table,
     memo: &mut Memo,

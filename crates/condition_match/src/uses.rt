@@ -1,4 +1,4 @@
-//! Which of the machine's variables a term lacks, kept for all terms that are put.
+//! Which of the machine's variables a term lacks, cached for all terms of a substitution.
 
 ghost use Rattle.std.specs.Prelude.{◌≡◌, ◌<◌, ◌+◌, ◌^◌, true, IfOk, IfSome, IsTrue, OnOk};
 ghost use Rattle.term_table.specs.Tree.{App, Lam, Var};

@@ -1,4 +1,4 @@
-//! Reading a container, front to back.
+//! Reads a container, from front to back.
 
 ghost use Rattle.std.specs.Prelude.{◌≡◌, [], ◌+◌, ◌*◌, ◌^◌, ◌<◌, ◌≤◌, length, map, ◌↔◌};
 ghost use Rattle.std.specs.Prelude.{IfOk, IfErr, IfSome, IsTrue, OnOk};
@@ -327,12 +327,12 @@ fn parse(alloc: Global, bytes: &[u8]) -> Result<Container<'_>, Malformed>
     Ok(container)
 }
 
-/// Decodes container `bytes`; its terms are the entries, in the order in which they stand, and its
+/// Decodes a container from `bytes`. Its terms are the entries, in the order of the bytes, and its
 /// code is a slice of `bytes`.
 ///
-/// Errors: the first fault with its byte offset, fields being read from the front and each tested
-/// as soon as it is read; `Memory` says nothing of `bytes`. The format is this project's own
-/// (`specs/Encoding`).
+/// Errors: the first error in the bytes with its byte offset: fields are read from the front and
+/// each is tested as soon as it is read. `Memory` says nothing about `bytes`. The format is this
+/// project's own (`specs/Encoding`).
 pub fn read(alloc: Global, bytes: &[u8]) -> Result<Container<'_>, Malformed>
     ensures decodes { IfOk result (λ c. EncodesContents bytes.now (contents_of c)) }
     ensures none { IfErr result (λ e. IsNone bytes.now e) }

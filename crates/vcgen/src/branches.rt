@@ -1,4 +1,4 @@
-//! What holds where a conditional branch is taken, and where it isn't.
+//! The conditions under which a conditional branch is taken and isn't taken.
 
 ghost use Rattle.std.specs.Prelude.{IfOk};
 ghost use Rattle.term_table.specs.Table.{IsKnown, tree_at, Extends};

@@ -29,7 +29,7 @@ use policy_set::Policy;
 use std::alloc::AllocError;
 use term_table::{Id, Node, Table};
 
-/// The greatest unfolded length of code that has a verification condition here.
+/// The greatest total length of the paths between cut points for which `vc` builds a condition.
 pub const MAX_UNFOLDED: u32 = 65_536;
 
 /// The greatest height of an invariant's term.
@@ -183,16 +183,16 @@ fn encoded_condition(
     condition_of(table, shifts, &program, pre)
 }
 
-/// The encoding of the verification condition of `cut` under `policy` and `bound`, the formulas of
-/// its invariants being those that the terms of `invs` encode: each annotated index with a term of
-/// type form over the longest signature of word arithmetic, at most `MAX_HEIGHT` high, in rising
-/// order of indices. Where `bound` is None steps aren't counted, and the terms are in the context
-/// m, r0 to r30; else it is the most steps that the code may make, and they are in the context
-/// left, m, r0 to r30.
+/// Builds the encoding of the verification condition of `cut` under `policy` and `bound`. The terms
+/// of `invs` encode the invariants: each cut point has a well-typed formula over the longest
+/// signature of word arithmetic, at most `MAX_HEIGHT` high, and the indices rise. If `bound` is
+/// None, steps aren't counted, and the terms are in the context m, r0 to r30. Else `bound` is the
+/// most steps that the code may make, and they are in the context left, m, r0 to r30.
 ///
-/// Errors: `UnfoldLimit` names the unfolded length exactly where it exceeds `MAX_UNFOLDED`, which is
-/// tested first; `Memory` says nothing of the condition, nor does `Results`, which more than
-/// `MOST_RESULTS` results of substitution are. Each id keeps its tree.
+/// Errors: `UnfoldLimit` names the total length of the paths between cut points exactly if it
+/// exceeds `MAX_UNFOLDED`, which is tested first. `Memory` says nothing about the condition.
+/// Neither does `Results`, which comes if more than `MOST_RESULTS` results of substitution would be
+/// cached. Each id keeps its tree.
 pub fn vc(
     table: &mut Table,
     cut: &Cut,
