@@ -1,4 +1,4 @@
-//! The clauses before the proof, a function for each.
+//! The acceptance checks before the proof, a function for each.
 
 ghost use Rattle.std.specs.Prelude.{◌≡◌, ◌≤◌, ◌+◌, ◌<◌, ◌*◌, ◌%◌, [], ◌∷◌, length, drop, map, All, IfOk, IfSome, OnOk};
 ghost use Rattle.std.specs.Prelude.{replicate, slice_set};
@@ -158,8 +158,10 @@ fn left_types(alloc: Global, word: Id, memory: Id) -> Result<Vec<Id>, AllocError
     Ok(types)
 }
 
-/// The types of what invariants of code with that bound are over: the steps that are left, where
-/// there is a bound, then m and r0 to r30. An error where memory is refused.
+/// Returns the types of the variables of invariants: the remaining steps, if `bound` is Some, then
+/// m and r0 to r30.
+///
+/// Errors: out of memory; each id keeps its tree.
 pub fn context_types(
     alloc: Global,
     table: &mut Table,
@@ -203,9 +205,11 @@ fn has_form(
     check_term_with(table, kept, &signature, context, id, form)
 }
 
-/// Clause 6: the first invariant, from this place on, that is no formula over the context of code
-/// with that bound in the signature; `context` is what `context_types` gives. An error where memory
-/// is refused, or no further result can be kept.
+/// Returns the index of the first invariant, from index `from` of `invs` on, that fails acceptance
+/// check 6: that isn't a formula over the context of code with that bound in the signature.
+/// `context` is what `context_types` returns.
+///
+/// Errors: out of memory, or the limit of `kept` is reached; each id keeps its tree.
 pub fn first_formless(
     table: &mut Table,
     kept: &mut Kept,

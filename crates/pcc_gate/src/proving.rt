@@ -1,4 +1,4 @@
-//! The clauses of the proof and of the proofs of lemmas.
+//! The acceptance checks of the proof and of the lemmas' proofs.
 
 ghost use Rattle.std.specs.Prelude.{◌≡◌, ◌≤◌, [], IfOk, IfSome, OnOk, length, map};
 ghost use Rattle.alpha_cfg.specs.Cuts.{AreFlags, unfolded_of};
@@ -34,8 +34,8 @@ use std::alloc::Global;
 use term_table::{Id, Table};
 use vcgen::VcFault;
 
-/// What the proofs of lemmas weigh together, by the parameters of the signature. Past 4,294,967,295
-/// it answers that.
+/// Returns the total weight of the lemmas' proofs, by the parameters of the signature. Saturates at
+/// 4,294,967,295.
 pub fn lemmas_weight(table: &Table, signature: WordSignature, lemmas: &[(Id, Id)]) -> u32
     requires known { LemmasKnown table.now lemmas.now }
     requires places { table.now.places ≡ places_of signature }
