@@ -1,7 +1,7 @@
 //! Substitution of an expression for one variable, on ids.
 //!
-//! Results are kept by the entry, the variable and what is put for it, so no part of a formula is gone
-//! through twice under as many binders.
+//! Results are cached by the node, the variable and the substituted expression, so no part of a
+//! formula is visited twice under as many binders.
 
 ghost use Rattle.std.specs.Prelude.{◌≡◌, ◌≤◌, IfOk, OnOk};
 ghost use Rattle.term_table.specs.Tree.{Var, spot};
@@ -24,14 +24,14 @@ use std::alloc::AllocError;
 use term_table::{Id, Node, Table};
 use word_ops::op_constant;
 
-/// What is asked: an entry, a variable, and what is put for it.
+/// A cache key for substitutions: a node, a variable, and the expression to substitute for it.
 #[derive(Clone, Copy, PartialEq, Eq, PartialOrd, Ord)]
 pub enum Put {
-    /// Of an expression.
+    /// A substitution in an expression.
     Exp(u64, u64, u64),
-    /// Of a memory.
+    /// A substitution in a memory.
     Mem(u64, u64, u64),
-    /// Of a formula.
+    /// A substitution in a formula.
     Form(u64, u64, u64),
 }
 
@@ -49,7 +49,7 @@ impl Question for Put {
     ghost lasts = { λ _ t u q r e _ h. put-lasts t u q r e h };
 }
 
-/// Results of substitutions on one table.
+/// Cached results of substitutions on one table.
 pub type Puts = Kept<Put>;
 
 /// The word variable `n`, whose id is `id`, with what is put for the variable `x`; variables past it
