@@ -1,7 +1,7 @@
-//! The best bound of an expression from a side: chosen first, by words alone, and made where the
-//! proof is asked for. From below it is the one where steps are counted.
+//! The best bound of an expression from a side: chosen first, by words alone, and built when its
+//! proof is asked for. From below it is the lower bound for counted steps.
 //!
-//! Errors: want of memory alone; each id keeps its tree.
+//! Errors: out of memory, or the limit of the memo is reached; each id keeps its tree.
 
 ghost use Rattle.std.specs.Prelude.{◌≡◌, ◌≤◌, ◌+◌, true, IfOk, OnOk, length};
 ghost use Rattle.term_table.specs.Table.{IsKnown, tree_at, Extends};

@@ -1,6 +1,6 @@
 //! Bounds of expressions, and the proofs that they are made of.
 //!
-//! Errors: want of memory alone; each id keeps its tree.
+//! Errors: out of memory, or the limit of the memo is reached; each id keeps its tree.
 
 ghost use Rattle.std.specs.Prelude.{◌≡◌, ◌≤◌, IfOk, OnOk};
 ghost use Rattle.term_table.specs.Table.{TableView, IsKnown, tree_at, Extends};
@@ -23,9 +23,9 @@ use word_ops::{Op, Rel, apply};
 /// A word and the id of a proof that it is a bound.
 #[derive(Clone, Copy)]
 pub struct Bound {
-    /// The word.
+    /// The bound.
     pub value: u64,
-    /// The proof.
+    /// The proof that the word is a bound.
     pub proof: Id,
 }
 

@@ -1,4 +1,4 @@
-//! Which candidate is the best bound: no term is made, and the table stays as it is.
+//! Chooses which candidate is the best bound: builds no term and leaves the table unchanged.
 
 ghost use Rattle.std.specs.Prelude.{◌≡◌, ◌<◌, ◌+◌, ◌^◌, ◌++◌, true, [], ◌∷◌, if◌then◌else◌, nat_lt, nat_le, suc, drop, length};
 ghost use Rattle.term_table.specs.Table.{IsKnown, tree_at};

@@ -1,5 +1,5 @@
-//! Bounds that are kept, so that an expression that stands in many places is gone through once, and
-//! the proof of its bound made once.
+//! Cached bounds, so that a shared expression is visited once, and the proof of its bound built
+//! once.
 
 ghost use Rattle.std.specs.Prelude.{◌≡◌, ◌+◌, IfOk, IfSome, List, OnOk};
 ghost use Rattle.term_table.specs.Table.{TableView, IsKnown, tree_at};
@@ -48,15 +48,15 @@ impl Question for Subject {
     ghost lasts = { λ l t u s r e k h. row-lasts t u l s r k e h };
 }
 
-/// Bounds that were found, of expressions under one list of hypotheses: upper ones, and, where steps
-/// are counted, lower ones. They count in the limit of the `Memo` that keeps the shifts.
+/// Cached bounds of expressions under one list of hypotheses: upper ones, and, if steps are
+/// counted, lower ones. They count in the limit of the `Memo` that caches the shifts.
 #[derive(Drop)]
 pub struct KeptBounds {
     rows: Kept<Subject>,
 }
 
 impl KeptBounds {
-    /// None yet, which takes no memory, for any hypotheses.
+    /// Returns an empty cache, which allocates nothing yet, for any hypotheses.
     pub fn new(alloc: Global) -> KeptBounds
         ensures { (t : TableView) (hyps : List H) → AreBounds t hyps result }
     {

@@ -1,6 +1,6 @@
-//! The parts of an operator, and what they say of it from above, bounded themselves.
+//! The operands of an operator, themselves bounded, and the upper bounds that they give of it.
 //!
-//! Errors: want of memory alone; each id keeps its tree.
+//! Errors: out of memory, or the limit of the memo is reached; each id keeps its tree.
 
 ghost use Rattle.std.specs.Prelude.{◌≡◌, ◌<◌, ◌≤◌, IfOk, IfSome, OnOk};
 ghost use Rattle.term_table.specs.Table.{IsKnown, tree_at, Extends};

@@ -1,4 +1,4 @@
-//! What a hypothesis says of an expression that it relates to a word.
+//! The bound that a hypothesis gives of an expression that it relates to a word.
 
 ghost use Rattle.std.specs.Prelude.{◌≡◌, ◌≤◌, IfOk, drop, OnOk};
 ghost use Rattle.term_table.specs.Tree.{Tree};

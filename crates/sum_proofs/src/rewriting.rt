@@ -1,6 +1,6 @@
-//! Single rewritings of expressions, with the proofs of their equations.
+//! Single rewriting steps of expressions, with the proofs of their equations.
 //!
-//! Errors: want of memory alone; each id keeps its tree.
+//! Errors: out of memory, or the limit of the memo is reached; each id keeps its tree.
 
 ghost use Rattle.std.specs.Prelude.{◌≡◌, ◌<◌, ℕ, IfOk, List};
 ghost use Rattle.term_table.specs.Table.{IsKnown, tree_at, Extends};
