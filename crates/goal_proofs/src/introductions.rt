@@ -1,6 +1,6 @@
 //! Proofs of connectives from proofs of their parts, on ids.
 //!
-//! Errors: want of memory alone; each id keeps its tree.
+//! Errors: out of memory, or the limit of the memo is reached; each id keeps its tree.
 
 ghost use Rattle.std.specs.Prelude.{◌≡◌, [], ◌∷◌, Option, Some, IfOk, IfSome};
 ghost use Rattle.std.specs.Option.{option_map};

@@ -1,7 +1,6 @@
-//! Goals that words alone prove: alignment, normal forms, bounds.
+//! Goals that arithmetic on words proves: alignment, normal forms, bounds.
 //!
-//! Errors: want of memory alone, which more results than the search may keep are too; each id keeps
-//! its tree.
+//! Errors: out of memory, or the search's limit is reached; each id keeps its tree.
 
 ghost use Rattle.std.specs.Prelude.{◌≡◌, IfOk, IfSome, OnOk};
 ghost use Rattle.term_table.specs.Table.{IsKnown, tree_at, Extends, Stands};
@@ -350,11 +349,10 @@ fn by_bounds(
     }
 }
 
-/// The normal form of `e` with the proof that they are equal, where `outside` binders stand outside; it
-/// is kept in `search`.
+/// Returns the normal form of `e`, which is under `outside` binders, with the proof that they are
+/// equal, and caches it in `search`.
 ///
-/// Errors: want of memory alone, which more results than `search` may keep are too; each id keeps its
-/// tree.
+/// Errors: out of memory, or the limit of `search` is reached; each id keeps its tree.
 #[tactic(auto, using(crate::proofs::Kept::rows))]
 pub fn normal(
     table: &mut Table,
@@ -374,10 +372,10 @@ pub fn normal(
     normal_form(table, &mut search.memo, &mut search.forms, outside, e)
 }
 
-/// The normal form of `e` alone, where `outside` binders stand outside; it is kept in `search`.
+/// Returns the normal form alone of `e`, which is under `outside` binders, and caches it in
+/// `search`.
 ///
-/// Errors: want of memory alone, which more results than `search` may keep are too; each id keeps its
-/// tree.
+/// Errors: out of memory, or the limit of `search` is reached; each id keeps its tree.
 #[tactic(auto, using(crate::proofs::Kept::rows))]
 pub fn normal_exp(
     table: &mut Table,
@@ -542,12 +540,11 @@ fn relation_by_words(
     }
 }
 
-/// The proof of a goal that words alone prove, under the hypotheses of the context: by alignment, by
-/// normal forms, or by bounds. None where there is none, or the goal has a connective. `counted` says
-/// whether steps are counted.
+/// Returns the proof of a goal that words alone prove, under the hypotheses of the context: by
+/// alignment, by normal forms, or by bounds. Returns None if there is none, or if the goal has a
+/// connective. `counted` says whether steps are counted.
 ///
-/// Errors: want of memory alone, which more results than the search may keep are too; each id keeps
-/// its tree.
+/// Errors: out of memory, or the limit of `search` is reached; each id keeps its tree.
 #[tactic(auto, using(crate::proofs::WordRows::rows))]
 pub fn proof_by_words(
     table: &mut Table,

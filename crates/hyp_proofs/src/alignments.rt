@@ -1,7 +1,6 @@
 //! Proofs that expressions are multiples of 8.
 //!
-//! Errors: want of memory alone, which more results than the memo may keep are too; each id keeps
-//! its tree.
+//! Errors: out of memory, or the limit of the memo is reached; each id keeps its tree.
 
 ghost use Rattle.std.specs.Prelude.{◌≡◌, IfOk, IfSome, OnOk};
 ghost use Rattle.term_table.specs.Table.{IsKnown, tree_at, Extends, Stands};
@@ -30,7 +29,7 @@ use std::alloc::AllocError;
 use term_table::{Id, Node, Table};
 use word_ops::{Op, Rel};
 
-/// The expression that is asked about, whether it is a multiple of 8.
+/// A cache key: an expression that may be a multiple of 8.
 #[derive(Clone, Copy, PartialEq, Eq, PartialOrd, Ord)]
 pub struct Aligned {
     exp: u64,
@@ -50,7 +49,8 @@ impl Question for Aligned {
     ghost lasts = { λ l t u q o e k h. alignment-lasts t u l q.exp o k e h };
 }
 
-/// What was found of expressions under the same hypotheses. It counts in the limit of a `Memo`.
+/// Cached answers whether expressions are multiples of 8, under one list of hypotheses. They count
+/// in the limit of a `Memo`.
 pub type Alignments = Kept<Aligned>;
 
 /// The id as a question.
@@ -279,11 +279,11 @@ fn alignment_of_mask(
     }
 }
 
-/// The proof that the expression `e` is a multiple of 8 by what stands at its head, the same of its
-/// parts also by `hyps`; none where the class gives none. What was found is kept in `kept`.
+/// Returns the proof that the expression `e` is a multiple of 8 by its head; its parts are proved
+/// multiples of 8 by their heads or by `hyps`. Returns None if `prover_class` gives no proof.
+/// `kept` has the cached answers.
 ///
-/// Errors: want of memory alone, which more results than `memo` may keep are too; each id keeps its
-/// tree.
+/// Errors: out of memory, or the limit of `memo` is reached; each id keeps its tree.
 #[cycle(aligning)]
 #[tactic(auto, using(crate::proofs::AlignmentRows::rows))]
 pub fn alignment_proof(

@@ -1,7 +1,8 @@
-//! What a comparison, or its denial, is split into.
+//! What a hypothesis about a comparison, or its denial, is split into.
 //!
-//! A test of two expressions gives 1 or 0, so that its comparison with 0 says whether its relation
-//! holds. Where its first expression is a test and its second is 0 again, the same goes on.
+//! A compare instruction gives 1 or 0, so comparing its result with 0 says whether its relation
+//! holds. If the relation's first expression is again such a result and its second is 0, the
+//! splitting goes on.
 
 ghost use Rattle.std.specs.Prelude.{◌≡◌, ◌+◌, ◌≤◌, [], ◌∷◌, IfOk, IfSome, OnOk, not, IsTrue, ◌↔◌};
 ghost use Rattle.term_table.specs.Table.{IsKnown, tree_at, Extends};
