@@ -1,8 +1,7 @@
-//! What is put for the variable of a quantified hypothesis, so that an address of its conclusion is
-//! the one that is asked for.
+//! Instantiates the variable of a quantified hypothesis, so that an address of its conclusion is
+//! the one that the goal names.
 //!
-//! Errors: want of memory alone, which more results than the search may keep are too; each id keeps
-//! its tree.
+//! Errors: out of memory, or the search's limit is reached; each id keeps its tree.
 
 ghost use Rattle.std.specs.Prelude.{◌≡◌, true, Option, Some, IfOk, IfSome, OnOk};
 ghost use Rattle.std.specs.Bool.{Decides};

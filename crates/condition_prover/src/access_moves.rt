@@ -1,7 +1,6 @@
-//! Addresses with one normal form, and the step from access to one to access to the other.
+//! Addresses with one normal form, and the proof step from access at one to access at the other.
 //!
-//! Errors: want of memory alone, which more results than the search may keep are too; each id keeps
-//! its tree.
+//! Errors: out of memory, or the search's limit is reached; each id keeps its tree.
 
 ghost use Rattle.std.specs.Prelude.{◌≡◌, if◌then◌else◌, Some, None, IfOk, IfSome, OnOk};
 ghost use Rattle.term_table.specs.Table.{IsKnown, tree_at, Extends, Stands};

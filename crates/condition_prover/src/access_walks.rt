@@ -1,8 +1,8 @@
-//! The first address in a hypothesis' conclusion by which it gives access.
+//! Finds the first address in a hypothesis' conclusion by which it gives access.
 //!
-//! Conjunctions are gone through from the left. Whether an address gives access doesn't depend on
-//! the way to it, so no part of the conclusion is gone through twice. Errors: want of memory alone,
-//! which more results than the search may keep are too; each id keeps its tree.
+//! Conjunctions are searched from the left. Whether an address gives access doesn't depend on the
+//! path to it, so no part of the conclusion is visited twice. Errors: out of memory, or the
+//! search's limit is reached; each id keeps its tree.
 
 ghost use Rattle.std.specs.Prelude.{◌≡◌, ◌<◌, true, Option, Some, List, IfOk, IfSome, OnOk};
 ghost use Rattle.std.specs.Option.{option_map};
