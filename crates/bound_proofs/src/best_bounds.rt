@@ -60,7 +60,7 @@ pub(crate) fn choice_of(
     Ok(choice)
 }
 
-/// The same, which isn't kept yet.
+/// The choice for an expression that isn't cached yet.
 #[cycle(choosing)]
 fn choice_anew(
     table: &Table,
@@ -217,7 +217,7 @@ pub(crate) fn made(
     }
 }
 
-/// The bound of an operator by those of its parts that it needs, from the same side.
+/// The bound of an operator by the bounds of those operands that it needs, from one side.
 #[cycle(bounding)]
 #[tactic(auto, using(crate::proofs::BoundRows::rows))]
 fn made_by_parts(

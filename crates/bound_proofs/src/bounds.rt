@@ -38,7 +38,7 @@ pub(crate) enum Side {
     Lower,
 }
 
-/// That the first is at most the second, where one is the expression and the other a word, which is
+/// That the first is at most the second, one being the expression and the other a word, which is
 /// the variable 0 under a binder.
 #[tactic(auto, using(hereditary_subst::proofs::Rows::rows))]
 pub(crate) fn placed(table: &mut Table, memo: &mut Memo, side: Side, e: Id) -> Result<Id, Exhausted>
@@ -119,7 +119,7 @@ pub(crate) fn folded(
     Ok(Bound { value, proof })
 }
 
-/// The proof that a word is at most what an operator gives at two words, where it is.
+/// The proof that a word is at most what an operator gives at two words, if it is.
 #[tactic(auto, using(hereditary_subst::proofs::Rows::rows))]
 pub(crate) fn fit_proof(
     table: &mut Table,

@@ -149,7 +149,7 @@ pub(crate) fn choice_alone(table: &Table, side: Side, hyps: &[Hypothesis], e: Id
     }
 }
 
-/// This candidate where `fits`, unless the last is strictly better.
+/// This candidate if `fits`, unless the last is strictly better.
 fn or_last_if(side: Side, fits: bool, by: By, value: u64, last: Choice) -> Choice
     ensures { (Γ : Hyps) (x : Exp) (w : WordBound) → value ≡ (chosen side Γ x by).value
         → IsChoice side Γ x w last → IsChoice side Γ x
@@ -169,7 +169,7 @@ fn fits_sum(v: u64, w: u64) -> bool
     v.checked_add(w).is_some()
 }
 
-/// Whether no bit is lost where the word is shifted to the left.
+/// Whether no bit is lost if the word is shifted to the left.
 fn fits_shift(v: u64, count: u64) -> bool
     ensures { result ≡ nat_le v (word_of Srl max_word count) }
 {
@@ -261,7 +261,7 @@ pub(crate) fn choice_of_parts(
     by_hyps(table, Side::Upper, hyps, e, best)
 }
 
-/// What a difference from the word `w` is at least, where its left side's lower bound has the word
+/// The lower bound of a difference from the word `w`, if its left side's lower bound is the word
 /// `v`; else the limit.
 fn by_difference(w: u64, v: u64) -> Choice
     ensures { (Γ : Hyps) (x : Exp) → v ≡ (lower_bound true Γ x).value

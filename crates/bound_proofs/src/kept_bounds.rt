@@ -27,7 +27,7 @@ struct Subject {
     exp: u64,
 }
 
-/// What was chosen as a bound, and the proof's id where it was made.
+/// The choice of a bound, and the proof's id if it was built.
 #[derive(Clone, Copy)]
 struct Row {
     choice: Choice,
@@ -100,8 +100,9 @@ impl KeptBounds {
         }
     }
 
-    /// Keeps what was chosen of the expression, and the proof where it was made. Fails past the limit
-    /// of `memo`, and where memory does.
+    /// Caches the choice for the expression, and the proof if it was built.
+    ///
+    /// Errors: the limit of `memo` is reached, or out of memory.
     pub(crate) fn keep(
         &mut self,
         memo: &mut Memo,

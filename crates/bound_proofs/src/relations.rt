@@ -43,7 +43,7 @@ pub(crate) struct Related {
     pub(crate) value: u64,
 }
 
-/// The relation of this kind to the word that `b` is, where `a` is the expression `e`.
+/// The relation of this kind to the word that `b` is, if `a` is the expression `e`.
 fn to_word(table: &Table, kind: Kind, a: Id, b: Id, e: Id) -> Option<Related>
     requires a { IsKnown table.now a }
     requires b { IsKnown table.now b }
@@ -108,8 +108,8 @@ fn below(table: &Table, rel: Rel, a: Id, b: Id, e: Id) -> Option<Related>
     }
 }
 
-/// How the hypothesis relates the expression to a word that bounds it from this side; none where it
-/// says nothing of it.
+/// How the hypothesis relates the expression to a word that bounds it from this side; None if it
+/// says nothing about the expression.
 pub(crate) fn relation_of(table: &Table, side: Side, form: Id, e: Id) -> Option<Related>
     requires form { IsKnown table.now form }
     requires e { IsKnown table.now e }
@@ -250,7 +250,7 @@ fn by_relation(
     }
 }
 
-/// What the hypothesis at this place says of the expression; the limit where it says nothing.
+/// The bound that the hypothesis at this index gives of the expression; the limit if it gives none.
 #[tactic(auto, using(hereditary_subst::proofs::Rows::rows))]
 pub(crate) fn by_hypothesis(
     table: &mut Table,

@@ -59,7 +59,7 @@ fn excess(alloc: Global, view: &View<'_>, proof: Id) -> Result<Option<ProveFault
     Ok(None)
 }
 
-/// The encoding of what the view shows, where nothing is past its limit.
+/// The encoding of what the view shows, if nothing is past its limit.
 fn written(alloc: Global, view: &View<'_>, proof: Id) -> Result<Vec<u8>, ProveFault>
     requires roots { AreKnown view.now.table.now view.now.invs.now view.now.proof }
     requires lemmas { LemmasKnown view.now.table.now view.now.lemmas.now }
@@ -131,7 +131,7 @@ fn proved(
     }
 }
 
-/// What `prove` answers.
+/// The result of `prove`.
 fn made(alloc: Global, policy: &Policy, bytes: &[u8]) -> Result<Vec<u8>, ProveFault>
     ensures { IsProveAnswer policy.now bytes.now result }
 {

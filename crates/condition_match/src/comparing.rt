@@ -57,7 +57,7 @@ pub(crate) fn is_walk(
     }
 }
 
-/// The same with the terms of `after`.
+/// Whether `goal` is the term of the walk with the terms of `after`.
 #[cycle(comparing)]
 fn is_walk_with(
     table: &mut Table,
@@ -88,7 +88,7 @@ fn is_walk_with(
     Ok(equal)
 }
 
-/// Whether `goal` is that where the formula of `side` holds, the walk from its index does.
+/// Whether `goal` says that the walk from the index of `side` holds if its formula does.
 #[cycle(comparing)]
 fn is_side(
     table: &mut Table,
@@ -254,7 +254,7 @@ fn is_insn(
     }
 }
 
-/// The same with the terms of `after`.
+/// Whether `goal` is the term of the walk over the instruction with the terms of `after`.
 #[cycle(comparing)]
 fn is_insn_with(
     table: &mut Table,
@@ -288,7 +288,8 @@ fn is_insn_with(
     Ok(equal)
 }
 
-/// The same where steps are counted: that one is left stands first, and the rest with one less.
+/// Whether `goal` is the term of the walk over the instruction if steps are counted: first that a
+/// step is left, then the rest with one less.
 #[cycle(comparing)]
 fn is_counted(
     table: &mut Table,
@@ -361,8 +362,8 @@ pub(crate) fn is_walk_from(
     }
 }
 
-/// Whether `goal` is the term of the walk from index 0, where all steps are left, if they are
-/// counted; `start` is each of the machine's variables for itself.
+/// Whether `goal` is the term of the walk from index 0, with all steps left, if they are counted;
+/// `start` has each of the machine's variables for itself.
 pub(crate) fn is_walk_entry(
     table: &mut Table,
     shifts: &mut Memo,

@@ -48,8 +48,8 @@ impl Comparisons {
         }
     }
 
-    /// What is kept for a walk with the terms of `after`: the results of before, where these are
-    /// theirs. They go along with that walk.
+    /// The cache for a walk with the terms of `after`: the earlier results, if these are of those
+    /// terms. The walk takes them along.
     pub(crate) fn inner(&mut self, table: &Table, symbols: &Symbols, after: &Symbols) -> Comparisons
         requires kept { AreComparisons table.now (ids_of symbols.now) self.old }
         requires after { AreMachineTerms table.now (ids_of after.now) }
@@ -104,8 +104,8 @@ impl Comparisons {
     }
 }
 
-/// Whether what is put for the machine's variables in a term is the term itself, where the goal is
-/// this; else nothing is said.
+/// Whether the substitution leaves a term unchanged, if the goal is this term; else nothing is
+/// said.
 fn is_left_alone(
     table: &Table,
     shifts: &mut Memo,

@@ -100,7 +100,7 @@ fn by_right(
     Ok(moved)
 }
 
-/// Access by one hypothesis: as it stands, from an implication, or from an instance.
+/// Access by one hypothesis: directly, from an implication, or from an instance.
 #[tactic(auto, using(goal_proofs::proofs::WordRows::rows))]
 fn by_hyp(
     table: &mut Table,

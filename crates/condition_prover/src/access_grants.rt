@@ -185,7 +185,7 @@ fn granted_by(
     }
 }
 
-/// The proof of the access that is asked for, from the hypothesis; none where no address of its
+/// The proof of the access that the goal names, from the hypothesis; None if no address of its
 /// conclusion gives it.
 #[tactic(auto, using(goal_proofs::proofs::WordRows::rows))]
 pub(crate) fn by_grant(

@@ -131,7 +131,7 @@ pub(crate) fn access_move(
     Ok(moved)
 }
 
-/// The same where the normal forms are one, else none.
+/// The proof of access at `a` from access at `z`, if their normal forms are equal, else None.
 #[tactic(auto, using(goal_proofs::proofs::Kept::rows))]
 pub(crate) fn moved_access(
     table: &mut Table,

@@ -36,8 +36,8 @@ struct Conjunction {
     rest: Id,
 }
 
-/// The first part of a condition and the rest; none where there are no parts. Of an id that encodes no
-/// parts one after another it says nothing, but that the rest's id is lower.
+/// The first part of a condition and the rest; None if there are no parts. If an id encodes no
+/// parts one after another, the result says only that the rest's id is lower.
 fn first_and_rest(table: &Table, condition: Id) -> Option<Conjunction>
     requires { IsKnown table.now condition }
     ensures known { IfSome result (λ c. IsKnown table.now c.first × IsKnown table.now c.rest) }
@@ -81,10 +81,11 @@ fn part_proof(
     Ok(proof)
 }
 
-/// The proof of a condition, part by part, or the number of the first part that isn't easy, where the
-/// parts' numbers begin at `number`. It says so of whatever parts the id is the conjunction of, one
-/// after another and ended by truth. `counted` says whether steps are counted. Fails where a number
-/// would be 2^32, and where memory does.
+/// The proof of a condition, part by part, or the number of the first part that isn't easy, the
+/// parts' numbers beginning at `number`. It holds for whatever parts the id is the conjunction of,
+/// one after another and ended by truth. `counted` says whether steps are counted.
+///
+/// Errors: a number would be 2^32, or out of memory.
 #[tactic(auto, using(goal_proofs::proofs::Kept::rows))]
 pub(crate) fn proof_of_parts(
     table: &mut Table,

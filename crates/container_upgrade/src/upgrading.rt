@@ -76,8 +76,9 @@ fn size_within(size: u64) -> Result<u64, UpgradeFault>
     Ok(size)
 }
 
-/// What names the built-in policy of the kind in a container of version 2. Fails only for want of
-/// memory.
+/// The field that names the built-in policy of the kind in a container of version 2.
+///
+/// Errors: out of memory alone.
 fn head_of(alloc: Global, kind: PolicyKind) -> Result<Head, AllocError>
     ensures { IfOk result (λ h. h ≡ Digest (digest_of (built_in kind))) }
 {

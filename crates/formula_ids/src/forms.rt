@@ -44,7 +44,7 @@ pub enum FormNode {
     AllMem(Id),
 }
 
-/// A constant at one argument; `body` is what stands under the argument's binder.
+/// A constant applied to one argument; `body` is the term under the argument's binder.
 fn unary(constant: u32, argument: Id, body: Option<Id>) -> FormNode
     ensures { result ≡ unary_node constant argument body }
 {
@@ -84,7 +84,7 @@ fn binary(constant: u32, a: Id, b: Id) -> FormNode
     }
 }
 
-/// What stands under a binder.
+/// The term under a binder.
 fn body_of(table: &Table, id: Id) -> Option<Id>
     requires { IsKnown table.now id }
     ensures { IsBody table.now id result }

@@ -48,7 +48,7 @@ pub(crate) fn put_form(
     Ok(put)
 }
 
-/// The same, by the formula's parts.
+/// The formula with `arg` for the variable `x`, by the formula's parts.
 #[cycle(formulas)]
 #[tactic(auto, using(crate::proofs::PutRows::rows))]
 fn put_form_parts(

@@ -72,7 +72,7 @@ fn put_word_variable(table: &mut Table, id: Id, n: u32, x: u64, arg: Id) -> Resu
     table.intern(Node::Var(n - 1))
 }
 
-/// The memory variable `n`, whose id is `id`, where a word is put for the variable `x`; variables past
+/// The memory variable `n`, whose id is `id`, with a word put for the variable `x`; variables past
 /// it are one less, and itself is read as m.
 fn put_memory_variable(table: &mut Table, id: Id, n: u32, x: u64) -> Result<Id, AllocError>
     requires id { IsKnown table.old id }
@@ -120,7 +120,7 @@ pub(crate) fn put_exp(
     Ok(put)
 }
 
-/// The same, by the expression's parts.
+/// The expression with `arg` for the variable `x`, by the expression's parts.
 #[cycle(words)]
 #[tactic(auto, using(crate::proofs::PutRows::rows))]
 fn put_exp_parts(
@@ -187,7 +187,7 @@ fn put_mem(
     Ok(put)
 }
 
-/// The same, by the memory's parts.
+/// The memory with `arg` for the variable `x`, by the memory's parts.
 #[cycle(words)]
 #[tactic(auto, using(crate::proofs::PutRows::rows))]
 fn put_mem_parts(

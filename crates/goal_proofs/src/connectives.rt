@@ -52,8 +52,8 @@ pub fn goal_proof<L: Leaf>(
     keep_answer(table, search, context, leaf.means(), goal, proof)
 }
 
-/// The same of a goal of which nothing is kept: a hypothesis, or what follows from falsity, or by its
-/// shape.
+/// The proof of a goal of which nothing is cached: a hypothesis, or what follows from falsity, or
+/// by its shape.
 #[cycle(proving)]
 #[tactic(auto, using(crate::proofs::Kept::rows))]
 fn unkept_proof<L: Leaf>(
@@ -82,7 +82,7 @@ fn unkept_proof<L: Leaf>(
     proof_by_shape(table, leaf, search, context, goal)
 }
 
-/// The same by the goal's shape.
+/// The proof of a goal by its shape.
 #[cycle(proving)]
 #[tactic(auto, using(crate::proofs::Kept::rows))]
 fn proof_by_shape<L: Leaf>(

@@ -133,7 +133,7 @@ impl Context {
     }
 }
 
-/// Keeps what was found of the goal, and answers it.
+/// Caches what was found for the goal, and returns it.
 fn keep_row(
     table: &Table,
     search: &mut Search,
@@ -165,8 +165,9 @@ fn keep_row(
     }
 }
 
-/// Keeps what was found of the goal, and answers it; what was made for it is counted. Fails past the
-/// limit of what is kept, and where memory does.
+/// Caches what was found for the goal, and returns it; what was built for it is counted.
+///
+/// Errors: the cache limit is reached, or out of memory.
 pub(crate) fn keep_answer(
     table: &Table,
     search: &mut Search,

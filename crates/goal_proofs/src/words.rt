@@ -71,7 +71,7 @@ fn less_tree(table: &mut Table, a: Id, b: Id, v: Bound, w: Bound) -> Result<Id, 
     rule_term(table, LT_LE, &[a, low, b, first, w.proof])
 }
 
-/// The same proof, where the one bound is at most the other.
+/// The proof that `a` is at most `b` by these bounds, if the upper is at most the lower.
 fn ule_by(table: &mut Table, a: Id, b: Id, v: Bound, w: Bound) -> Result<Option<Id>, Exhausted>
     requires a { IsKnown table.old a }
     requires b { IsKnown table.old b }
@@ -91,7 +91,7 @@ fn ule_by(table: &mut Table, a: Id, b: Id, v: Bound, w: Bound) -> Result<Option<
     }
 }
 
-/// The same proof, where the one bound is less than the other.
+/// The proof that `a` is less than `b` by these bounds, if the upper is less than the lower.
 fn ult_by(table: &mut Table, a: Id, b: Id, v: Bound, w: Bound) -> Result<Option<Id>, Exhausted>
     requires a { IsKnown table.old a }
     requires b { IsKnown table.old b }
@@ -421,7 +421,8 @@ fn proof_by_normal(
     proof_by_forms(table, &mut search.memo, rel, a, b, p, q)
 }
 
-/// The same proof, which is made where the normal forms alone say that there is one.
+/// The proof of the relation by the normal forms, which is built if the normal forms alone say that
+/// there is one.
 #[tactic(auto, using(crate::proofs::WordRows::rows))]
 fn by_normal(
     table: &mut Table,

@@ -33,7 +33,8 @@ impl<T: Drop> From<AllocFailed<T>> for Exhausted {
     }
 }
 
-/// A call whose one fault is want of memory answers that where its own limit is passed, too.
+/// Converts for a call whose only error is out of memory: it also returns that error past its own
+/// limit.
 impl From<Exhausted> for AllocError {
     fn from(_what: Exhausted) -> AllocError {
         AllocError

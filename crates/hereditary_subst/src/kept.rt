@@ -21,18 +21,19 @@ pub const STEPS_A_RESULT: u64 = 16;
 /// What is asked of a tree, by ids and counts.
 #[derive(Clone, Copy, PartialEq, Eq, PartialOrd, Ord)]
 pub(crate) enum Question {
-    /// The third, a tree, with each variable from the second number on raised by the first. What is
-    /// done stands before the tree here and below, so that the rows of one walk stand together.
+    /// Shifts the tree of the third id: each variable from the second number on is raised by the
+    /// first. In each key the arguments come before the tree, so that the rows of one walk are
+    /// neighbours.
     Shift(u64, u64, u64),
-    /// The second, a tree, with the variables past the first number lowered by one, where that one
-    /// doesn't occur.
+    /// Lowers the variables past the first number by one in the tree of the second id, in which the
+    /// variable with that number doesn't occur.
     Lower(u64, u64),
-    /// The first for the variable of the third number, at the type of the fourth, in the second, an
-    /// atomic term.
+    /// Substitutes the first for the variable of the third number, at the type of the fourth, in
+    /// the second, an atomic term.
     Head(u64, u64, u64, u64),
-    /// The same in an abstraction.
+    /// Substitutes, with the arguments of `Head`, in an abstraction.
     Under(u64, u64, u64, u64),
-    /// The same in a type.
+    /// Substitutes, with the arguments of `Head`, in a type.
     Type(u64, u64, u64, u64),
 }
 
@@ -166,8 +167,9 @@ impl Memo {
         }
     }
 
-    /// Keeps an answer to the question. Fails past the limit, where the table has more than `MOST_TREES`
-    /// trees, and where memory does.
+    /// Caches a result for the question.
+    ///
+    /// Errors: the limit is reached, the table has more than `MOST_TREES` trees, or out of memory.
     pub(crate) fn keep(
         &mut self,
         table: &Table,

@@ -91,7 +91,7 @@ fn equal_place(table: &mut Table, memo: &mut Memo, e: Id) -> Result<Id, Exhauste
     Ok(form)
 }
 
-/// From (eq e e) to (eq e (band a inner)), where e is `whole`: (band (band a word) 7).
+/// From (eq e e) to (eq e (band a inner)); e is `whole`: (band (band a word) 7).
 #[tactic(auto, using(hereditary_subst::proofs::Rows::rows))]
 fn masked_first(
     table: &mut Table,
@@ -318,7 +318,7 @@ pub fn alignment_proof(
     }
 }
 
-/// The same, by what stands at the expression's head.
+/// The proof that the expression `e` is a multiple of 8 by its head, if none is cached.
 #[cycle(aligning)]
 #[tactic(auto, using(crate::proofs::AlignmentRows::rows))]
 fn unkept_alignment(

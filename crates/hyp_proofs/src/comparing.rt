@@ -145,7 +145,7 @@ pub(crate) fn add_comparison(
     add_others(table, hyps, holds, rel, a, b, proof)
 }
 
-/// Adds what the comparison is split into beside itself.
+/// Adds what the comparison is split into in addition to itself.
 #[cycle(comparing)]
 #[tactic(auto, using(crate::proofs::Growing::rows))]
 fn add_others(
@@ -187,7 +187,7 @@ fn add_others(
     }
 }
 
-/// Adds what is split off where the expression is 0, or where it isn't.
+/// Adds what is split off if the expression is 0, or if it isn't.
 #[cycle(comparing)]
 #[tactic(auto, using(crate::proofs::Growing::rows))]
 fn add_tested(

@@ -15,8 +15,8 @@ use formula_ids::{Hypothesis, raised};
 use hereditary_subst::{Exhausted, Memo};
 use term_table::{Id, Table};
 
-/// Puts a hypothesis at the end, under one more binder. It counts as a result, also where its parts
-/// were raised before.
+/// Appends a hypothesis under one more binder. It counts as a result, also if its parts were raised
+/// before.
 #[tactic(auto, using(crate::proofs::Growing::rows))]
 fn push_raised(
     table: &mut Table,

@@ -28,7 +28,7 @@ struct Refutation {
     proof: Id,
 }
 
-/// What the hypothesis says to lead to falsity, where it is a hypothesis too.
+/// What the hypothesis says to lead to falsity, if it is a hypothesis too.
 fn refute_by(table: &Table, hyps: &Hypotheses, form: Id, denial: Id) -> Option<Refutation>
     requires hyps { AreKnownHyps table.now hyps.now }
     requires form { IsKnown table.now form }

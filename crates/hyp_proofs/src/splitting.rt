@@ -131,7 +131,7 @@ fn add_parts(
     }
 }
 
-/// The same of a conjunction, which is gone through once.
+/// Adds what a conjunction is split into, and visits it only once.
 #[cycle(splitting)]
 #[tactic(auto, using(crate::proofs::Growing::rows))]
 fn add_both(

@@ -17,8 +17,8 @@ use lf_signature::Signature;
 use std::alloc::Global;
 use term_table::{Id, Table};
 
-/// The first lemma whose proof doesn't check over `sig` or cites itself or a later one, where
-/// `late` is the first that does the latter.
+/// The first lemma whose proof doesn't check over `sig`, or cites itself or a later one; `late` is
+/// the first that does the latter.
 fn failing_or_late<S: Signature>(
     table: &mut Table,
     kept: &mut Kept,

@@ -137,7 +137,7 @@ fn conclusion_of(table: &Table, id: Id) -> Option<(Id, Id)>
     None
 }
 
-/// The parts of the type, where it is that of a rule that introduces a quantifier.
+/// The parts of the type, if it is that of a rule that introduces a quantifier.
 fn rule_of(table: &Table, declared: Id) -> Option<Rule>
     requires { IsKnown table.now declared }
     ensures { IfSome result (IsIntroductionRule table.now (tree_at table.now declared)) }
@@ -187,8 +187,8 @@ fn is_ready(table: &Table, m: Id, predicate: Id) -> bool
     true
 }
 
-/// The rule that `f` applies to an abstraction, the abstraction, and its body; None where it is no rule
-/// that introduces a quantifier, or applied to another term.
+/// The rule that `f` applies to an abstraction, the abstraction, and its body. None if it isn't a
+/// rule that introduces a quantifier, or is applied to another term.
 fn rule_on<S: Signature>(
     table: &mut Table,
     kept: &Kept,
@@ -252,8 +252,8 @@ fn fitted_on<S: Signature>(
     })
 }
 
-/// What the application of `f` to `m` asks and gives, where `f` is a rule that introduces a quantifier,
-/// applied to an abstraction.
+/// What the application of `f` to `m` requires and gives, if `f` is a rule that introduces a
+/// quantifier, applied to an abstraction.
 pub(crate) fn introduction_on<S: Signature>(
     table: &mut Table,
     kept: &Kept,

@@ -163,8 +163,9 @@ impl Kept {
         }
     }
 
-    /// Keeps an answer to the question in the context, in place of one in another. Fails past the
-    /// limit, and where memory does.
+    /// Caches an answer to the question in the context, in place of one in another.
+    ///
+    /// Errors: the limit is reached, or out of memory.
     pub(crate) fn keep<S: Signature>(
         &mut self,
         table: &Table,

@@ -6,7 +6,7 @@
 //! contexts may be anything whose ids are the table's. The derivations are defined in
 //! `lf_signature` (`specs/Typing`). Each old id keeps its tree, also if a call runs out of memory.
 //!
-//! No shared term is checked twice if the variables that it uses have the same types: `Kept` caches
+//! No shared term is checked twice if the variables that it uses have equal types: `Kept` caches
 //! the judgements, and can be passed from call to call on one table and signature. It has one limit
 //! for all that it caches; past it a call returns `Exhausted::Results`. Its `memo` can be lent to
 //! other calls on the table. Source: Harper and Licata, Mechanizing Metatheory in a Logical

@@ -29,7 +29,7 @@ fn is_variable(table: &Table, id: Id) -> bool
     }
 }
 
-/// Whether the tree stands for a set with variables.
+/// Whether the tree represents a set with variables.
 pub(crate) fn is_set(table: &Table, id: Id) -> bool
     requires { IsKnown table.now id }
     ensures { result ≡ is_set (tree_at table.now id) }
@@ -56,7 +56,7 @@ pub(crate) fn set_parts(table: &Table, id: Id) -> (u32, Id)
     }
 }
 
-/// The set of the variable `gap` and of those of `rest`, counted from behind it.
+/// The set of the variable `gap` and of those of `rest`, counted from the binder outside it.
 fn with_first<S: Signature>(
     table: &mut Table,
     kept: &mut Kept,

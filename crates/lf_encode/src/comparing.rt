@@ -15,8 +15,8 @@ use crate::puts::{MachineIds, Place, PutMemo, is_near, number, put_variable};
 use hereditary_subst::{Exhausted, Memo};
 use term_table::{Id, Node, Table};
 
-/// Whether `goal` is the term of `id` with what is put, where `depth` variables are nearer than the
-/// machine's.
+/// Whether `goal` is the term of `id` after the substitution, `depth` variables being nearer than
+/// the machine's.
 #[cycle(comparing)]
 #[tactic(auto, using(crate::proofs::KeptRows::rows))]
 fn is_put_at(
@@ -58,7 +58,7 @@ fn is_put_at(
     Ok(equal)
 }
 
-/// The same, by the parts of both terms.
+/// Whether `goal` is the term of `id` after the substitution, by the parts of both terms.
 #[cycle(comparing)]
 #[tactic(auto, using(crate::proofs::KeptRows::rows))]
 fn is_put_by_parts(

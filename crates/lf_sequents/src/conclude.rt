@@ -33,7 +33,7 @@ fn highest(table: &Table, ids: &[Id], least: u32) -> u32
     }
 }
 
-/// The same of the proofs of sequents.
+/// A height that none of the sequents' proofs passes, from one that others have.
 fn highest_proof(table: &Table, premises: &[&Sequent], least: u32) -> u32
     requires { AreOfTable table.now (sequents_of premises.now) }
     ensures least { least ≤ result }

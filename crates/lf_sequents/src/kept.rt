@@ -30,8 +30,9 @@ pub fn raised(table: &mut Table, memo: &mut Memo, id: Id, by: u64) -> Result<Id,
     }
 }
 
-/// The type of proofs with a term of this family for the nearest variable. Where substitution has no
-/// result, want of memory.
+/// The type of proofs with a term of this family for the nearest variable.
+///
+/// Errors: out of memory, also if substitution has no result.
 fn put(
     table: &mut Table,
     memo: &mut Memo,

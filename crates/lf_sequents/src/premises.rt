@@ -98,7 +98,7 @@ pub fn are_typed<S: Signature>(
     }
 }
 
-/// Whether the ids are the same.
+/// Whether the lists of ids are equal.
 fn are_same(a: &[Id], b: &[Id]) -> bool
     ensures { IsTrue result ↔ (a.now ≡ b.now) }
 {

@@ -113,10 +113,10 @@ fn denial(table: &mut Table, rel: u32, a: u64, b: u64) -> Result<Option<Id>, All
     Ok(Some(pf(table, denied)?))
 }
 
-/// Answers the type of `constant` in the signature: None exactly where it has none, or the node is
-/// no constant.
+/// Returns the type of `constant` in the signature: None exactly if it has none or the node is no
+/// constant.
 ///
-/// Errors: want of memory alone; each id keeps its tree.
+/// Errors: out of memory alone; each id keeps its tree.
 pub(crate) fn word_type(
     table: &mut Table,
     signature: WordSignature,

@@ -41,7 +41,7 @@ pub fn typing_laws()
 {}
 
 /// States that typing a tree depends only on the nearest types that its variables reach. Contexts
-/// that agree on the `n` nearest types give a tree over `n` variables the same results.
+/// that agree on the `n` nearest types give a tree over `n` variables equal results.
 pub fn near_laws()
     ensures checks { (sig : Const → Option Tree) (n : ℕ) (ctx other : List Tree) (m a : Tree) →
         is_over n m ≡ true → AgreeOnNearest n ctx other →

@@ -86,7 +86,7 @@ pub fn prove_true_with<S: Truthful>(
     check_term_with(table, kept, sig, &[], proof, proofs)
 }
 
-/// The formula of a type of proofs; None where the type is none.
+/// The formula of a type of proofs; None if the type isn't one.
 fn formula_of(table: &Table, proofs: Id) -> Option<Id>
     requires { IsKnown table.now proofs }
     ensures { IsResult table.now (λ g. tree_at table.now proofs ≡ pf g) result }

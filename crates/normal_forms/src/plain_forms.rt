@@ -70,7 +70,7 @@ pub fn leaves_up_to(table: &Table, e: Id, most: u32) -> u32
     }
 }
 
-/// What the rule gives of the operator `op` at `a` and `b`; none where there is no rule.
+/// What the rule gives for the operator `op` at `a` and `b`; None if there is no rule.
 fn given_by(table: &mut Table, rule: Rule, op: Op, a: Id, b: Id) -> Result<Option<Id>, AllocError>
     requires rule { IsKnownRule table.old rule }
     requires a { IsKnown table.old a }
@@ -96,8 +96,8 @@ fn given_by(table: &mut Table, rule: Rule, op: Op, a: Id, b: Id) -> Result<Optio
     }
 }
 
-/// The expression after one round, in which the first node that has a rule is rewritten; none where
-/// no node has one.
+/// The expression after one round, in which the first node that has a rule is rewritten; None if no
+/// node has one.
 #[cycle(rounds)]
 fn after_round(table: &mut Table, outside: u32, e: Id) -> Result<Option<Id>, AllocError>
     requires e { IsKnown table.old e }
@@ -112,8 +112,8 @@ fn after_round(table: &mut Table, outside: u32, e: Id) -> Result<Option<Id>, All
     }
 }
 
-/// The same of the operator at `a` and `b`, which is `e`: of its parts, the left one first, else of
-/// the operator itself.
+/// The operator at `a` and `b`, which is `e`, after one round: in its parts, the left one first,
+/// else by the rule of the operator itself; None if no node has a rule.
 #[cycle(rounds)]
 fn after_round_in(
     table: &mut Table,
@@ -170,7 +170,7 @@ fn after_rounds(table: &mut Table, outside: u32, rounds: u32, e: Id) -> Result<I
     Ok(now)
 }
 
-/// The normal form, where none is kept.
+/// The normal form, if none is cached.
 fn fresh_form(table: &mut Table, outside: u32, e: Id) -> Result<Id, AllocError>
     requires { IsKnown table.old e }
     ensures known { IfOk result (IsKnown table.new) }

@@ -59,8 +59,7 @@ pub enum Rule {
     Cancelled,
 }
 
-/// The order of summands, where `outside` binders stand outside, the steps' that are left among
-/// them.
+/// The order of summands under `outside` binders, the binder of the remaining steps among them.
 fn summand_key(table: &Table, outside: u32, e: Id) -> u32
     requires { IsKnown table.now e }
     ensures { (x : Exp) → tree_at table.now e ≡ exp_encoding x →

@@ -78,7 +78,7 @@ pub(crate) fn code_in(alloc: Global, bytes: &[u8], profile: Profile) -> Result<C
     }
 }
 
-/// The height of the term, where it is past the limit.
+/// The height of the term, if it is past the limit.
 fn height_past(table: &Table, id: Id) -> Option<u32>
     requires { IsKnown table.now id }
     ensures { result ≡ option_map capped (too_high (tree_at table.now id ∷ [])) }
@@ -91,8 +91,8 @@ fn height_past(table: &Table, id: Id) -> Option<u32>
     }
 }
 
-/// Clause 5 behind the invariants: the height of the first term of a lemma, or of the proof, that
-/// is too high.
+/// Acceptance check 5 after the invariants: the height of the first term of a lemma, or of the
+/// proof, that is too high.
 fn later_too_high(table: &Table, lemmas: &[(Id, Id)], proof: Option<Id>) -> Option<u32>
     requires lemmas { LemmasKnown table.now lemmas.now }
     requires proof { IfSome proof (IsKnown table.now) }
@@ -273,7 +273,7 @@ fn indices(alloc: Global, invs: &[(u32, Id)]) -> Result<Vec<u32>, AllocError>
     Ok(indices)
 }
 
-/// Clause 7: the code with its annotated indices, where they cut it.
+/// Acceptance check 7: the code with its cut points, if every cycle contains one.
 pub(crate) fn cut_at(alloc: Global, code: Code, invs: &[(u32, Id)]) -> Result<Cut, GateFault>
     requires rising { IsStrictlyIncreasing (map (λ p. p.0) invs.now) }
     requires below { All (λ k. k < length code) (map (λ p. p.0) invs.now) }

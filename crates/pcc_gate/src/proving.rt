@@ -117,7 +117,7 @@ pub(crate) fn lemmas_proved(
     }
 }
 
-/// The formula that the proof proves over the signature with the lemmas: None where it proves none.
+/// The formula that the proof proves over the signature with the lemmas: None if it proves none.
 fn formula_proved(
     table: &mut Table,
     kept: &mut Kept,

@@ -31,7 +31,8 @@ pub fn part(fields: &mut Fields<'_>, table: &Table) -> Result<Id, Malformed>
     }
 }
 
-/// The same of what is applied, which is no abstraction.
+/// The earlier entry that the next field names as the function of an application, which is no
+/// abstraction.
 fn head(fields: &mut Fields<'_>, table: &Table) -> Result<Id, Malformed>
     ensures read { Decodes (tree_at table.now)
         (head_at fields.old.bytes.now fields.old.read table.now.trees) result }

@@ -125,7 +125,7 @@ fn leave(table: &Table, walk: &mut Walk, id: Id) -> Result<(), AllocError>
     Ok(())
 }
 
-/// Takes a step, which no longer stands among the others.
+/// Takes a step, which is no longer among the others.
 fn take_step(
     table: &Table,
     walk: &mut Walk,

@@ -161,7 +161,7 @@ fn put_pairs(
     Ok(())
 }
 
-/// Adds the lemmas behind their count, where the version has some.
+/// Appends the lemmas after their count, if the version has some.
 fn put_lemmas(
     out: &mut Vec<u8>,
     table: &Table,
@@ -202,7 +202,7 @@ fn proof_number(table: &Table, walk: &Walk, proof: Option<Id>) -> u32
     }
 }
 
-/// Adds what stands behind the code.
+/// Appends the fields after the code.
 fn put_tail(out: &mut Vec<u8>, view: &View<'_>, walk: &Walk) -> Result<(), AllocError>
     requires { IsReady view.now walk.now }
     ensures { let es = left_trees view.now.table.now walk.now in
@@ -245,7 +245,7 @@ fn put_counts(out: &mut Vec<u8>, bound: Option<u32>, words: u32) -> Result<(), A
     }
 }
 
-/// Adds what stands before the code, which has so many words.
+/// Appends the fields before the code, which has `words` words.
 fn put_head(out: &mut Vec<u8>, view: &View<'_>, words: u32) -> Result<(), AllocError>
     ensures { let held = view_contents view.now in
         OnOk result (out.new.items ≡ out.old.items ++ head_bytes held words) }

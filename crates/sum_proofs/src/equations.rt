@@ -169,7 +169,7 @@ fn normalized(
     Ok(Rewritten { now, proof })
 }
 
-/// The normal form, where none is kept.
+/// The normal form, if none is cached.
 #[tactic(auto, using(hereditary_subst::proofs::Rows::rows))]
 fn fresh_normal_form(
     table: &mut Table,

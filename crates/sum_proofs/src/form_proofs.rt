@@ -51,7 +51,7 @@ fn second_moved(
     Ok(moved)
 }
 
-/// The proof of the relation of `a` and the word `w`, where `a` equals the word `v`.
+/// The proof of the relation of `a` and the word `w`, if `a` equals the word `v`.
 #[tactic(auto, using(hereditary_subst::proofs::Rows::rows))]
 fn first_moved(
     table: &mut Table,
@@ -139,7 +139,7 @@ fn words_proof(
     second_moved(table, memo, rel, a, b, q, first)
 }
 
-/// The proof of the relation, where both normal forms are words of which it holds.
+/// The proof of the relation, if both normal forms are words of which it holds.
 #[tactic(auto, using(hereditary_subst::proofs::Rows::rows))]
 fn held_of_words(
     table: &mut Table,
@@ -179,7 +179,7 @@ fn held_of_words(
     }
 }
 
-/// The proof that `a` equals `b`, where the normal forms are one; none of another relation.
+/// The proof that `a` equals `b`, if the normal forms are equal; None for another relation.
 #[tactic(auto, using(hereditary_subst::proofs::Rows::rows))]
 fn equal_forms(
     table: &mut Table,

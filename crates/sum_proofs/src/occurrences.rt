@@ -63,7 +63,7 @@ pub fn occurs(
     Ok(occurs)
 }
 
-/// The same, by the expression's parts.
+/// Whether variable 0 occurs in the expression, by its parts.
 #[cycle(occurring)]
 fn occurs_in_parts(
     table: &Table,
@@ -94,7 +94,7 @@ fn occurs_in_parts(
     }
 }
 
-/// Whether variable 0 stands in the memory.
+/// Whether variable 0 occurs in the memory.
 #[cycle(occurring)]
 fn occurs_in_mem(
     table: &Table,
@@ -118,7 +118,7 @@ fn occurs_in_mem(
     Ok(occurs)
 }
 
-/// The same, by the memory's parts.
+/// Whether variable 0 occurs in the memory, by its parts.
 #[cycle(occurring)]
 fn occurs_in_mem_parts(
     table: &Table,

@@ -42,8 +42,8 @@ use normal_forms::{
 use term_table::{Id, Node, Table};
 use word_ops::Op;
 
-/// One rewriting: `into` is the expression with variable 0 in the place of what is rewritten, where
-/// `from` becomes `to` by the proof; `after` is the whole expression then.
+/// One rewriting: `into` is the expression with variable 0 in the place of what is rewritten,
+/// `from` is rewritten to `to` by the proof, and `after` is the whole expression then.
 #[derive(Clone, Copy)]
 pub(crate) struct Rewrite {
     pub(crate) into: Id,

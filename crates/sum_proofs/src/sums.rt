@@ -14,7 +14,7 @@ use std::alloc::AllocError;
 use term_table::{Id, Node, Table};
 use word_ops::{Op, apply};
 
-/// Adds the summands of a normal form at the end; answers its literal.
+/// Appends the summands of a normal form; returns its literal.
 fn add_summands(table: &Table, e: Id, list: &mut Vec<u64>) -> Result<u64, AllocError>
     requires e { IsKnown table.now e }
     requires list { AllKnown table.now list.old.items }
@@ -45,7 +45,7 @@ pub fn summand_count(table: &Table, e: Id) -> u64
     }
 }
 
-/// Where the number stands first, from the place on.
+/// The first index of the number in the list, from `from` on.
 fn place_of(list: &[u64], a: u64, from: usize) -> Option<usize>
     ensures { IsFirstPlace list.now a from result }
 {
@@ -58,7 +58,7 @@ fn place_of(list: &[u64], a: u64, from: usize) -> Option<usize>
     place_of(list, a, from + 1)
 }
 
-/// Takes the first that is the expression away; false where there is none.
+/// Removes the first that is the expression; returns false if there is none.
 fn take_away(table: &Table, list: &mut Vec<u64>, a: u64) -> bool
     requires list { AllKnown table.now list.old.items }
     requires a { IsKnown table.now a }
@@ -77,7 +77,7 @@ fn take_away(table: &Table, list: &mut Vec<u64>, a: u64) -> bool
     }
 }
 
-/// Takes each of the second list away; false where one is missing.
+/// Removes each of the second list; returns false if one is missing.
 fn take_all_away(table: &Table, list: &mut Vec<u64>, others: &[u64]) -> bool
     requires list { AllKnown table.now list.old.items }
     requires others { AllKnown table.now others.now }

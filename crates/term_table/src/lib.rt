@@ -193,7 +193,7 @@ fn outside(reach: u32) -> u32
     }
 }
 
-/// The reach of two parts, where they may stand together.
+/// The reach of two parts, if they may be parts of one term or type.
 fn joined(first: bool, second: bool, a: u32, b: u32) -> u32
     ensures { result ≡ (if first && second then max a b else 4294967295) }
 {
@@ -311,11 +311,11 @@ fn numbers(node: Node)
     }
 }
 
-/// A node as the index has it, by that of its parts that came in last. So trees that come in one
-/// behind the other stand together there, however old their other parts are.
+/// The key of a node in the index, which begins with its latest child's id. So trees that are added
+/// one after another are neighbours there, however old their other parts are.
 #[derive(Clone, Copy, PartialEq, Eq, PartialOrd, Ord)]
 enum Key {
-    /// The id of that part, or 0 where there is none, and the node.
+    /// The id of the latest child, or 0 if there is none, and the node.
     Of(u64, Node),
 }
 

@@ -59,7 +59,7 @@ fn negated(table: &mut Table, formula: Id) -> Result<Id, AllocError>
     app2(table, IMP, formula, falsity)
 }
 
-/// What holds where the branch is taken, by what is tested.
+/// The formula that holds if the branch is taken, by the tested term.
 pub(crate) fn taken(table: &mut Table, cond: Cond, tested: Id) -> Result<Id, AllocError>
     requires { IsKnown table.old tested }
     ensures id { IfOk result (IsIdOf table.new (taken_term cond (tree_at table.old tested))) }
@@ -71,7 +71,7 @@ pub(crate) fn taken(table: &mut Table, cond: Cond, tested: Id) -> Result<Id, All
     }
 }
 
-/// What holds where it isn't taken.
+/// The formula that holds if the branch isn't taken, by the tested term.
 pub(crate) fn passed(table: &mut Table, cond: Cond, tested: Id) -> Result<Id, AllocError>
     requires { IsKnown table.old tested }
     ensures id { IfOk result (IsIdOf table.new (passed_term cond (tree_at table.old tested))) }

@@ -58,7 +58,8 @@ fn whole_machine(table: &mut Table, formula: Id) -> Result<Id, AllocError>
     quantified(table, ALLM, words)
 }
 
-/// The same, and where steps are counted for all numbers of them.
+/// The formula for all memories and registers, and if steps are counted for all numbers of
+/// remaining steps.
 fn closed(table: &mut Table, bound: Option<u32>, formula: Id) -> Result<Id, AllocError>
     requires { IsKnown table.old formula }
     ensures id { IfOk result (IsIdOf table.new (closed_term bound (tree_at table.old formula))) }
@@ -71,8 +72,8 @@ fn closed(table: &mut Table, bound: Option<u32>, formula: Id) -> Result<Id, Allo
     }
 }
 
-/// That one formula leads to the other, for all memories and registers, and where steps are counted
-/// for all numbers of them.
+/// The formula that one formula implies the other, for all memories and registers, and if steps are
+/// counted for all numbers of remaining steps.
 fn part(table: &mut Table, bound: Option<u32>, from: Id, to: Id) -> Result<Id, AllocError>
     requires from { IsKnown table.old from }
     requires to { IsKnown table.old to }

@@ -122,7 +122,7 @@ pub fn counted_step(table: &mut Table, symbols: &Symbols) -> Result<(Id, Symbols
     Ok((allowed, after))
 }
 
-/// What has to hold where a conditional branch is taken, and where it isn't.
+/// The formulas that hold if a conditional branch is taken, and if it isn't.
 fn split(table: &mut Table, symbols: &Symbols, cond: Cond, ra: Reg) -> Result<(Id, Id), AllocError>
     requires ready { AreMachineTerms table.old (ids_of symbols.now) }
     ensures taken { let terms = machine_terms_at table.old (ids_of symbols.now) in

@@ -140,7 +140,7 @@ impl Symbols {
         app2(table, rel_constant(Rel::Ult), zero, self.left)
     }
 
-    /// The terms where one step less is left.
+    /// The terms with one remaining step less.
     pub(crate) fn one_less(&self, table: &mut Table) -> Result<Symbols, AllocError>
         requires { AreMachineTerms table.old (ids_of self.now) }
         ensures after { let terms = machine_terms_at table.old (ids_of self.now) in

@@ -81,8 +81,8 @@ pub(crate) fn walk(
     }
 }
 
-/// The same with the terms of `after`; of these nothing is kept beyond the walk. What it keeps
-/// meanwhile counts on in the limit of `shifts`.
+/// Walks with the terms of `after`, for which nothing stays cached beyond the walk. What it caches
+/// meanwhile still counts in the limit of `shifts`.
 #[cycle(walking)]
 pub(crate) fn walk_with(
     table: &mut Table,
@@ -112,7 +112,8 @@ pub(crate) fn walk_with(
     walk(table, shifts, &mut fresh, program, fuel, index, after)
 }
 
-/// That the walk from `target` holds where `taken` does, and the one from `next` where `passed` does.
+/// The formula that the walk from `target` holds if `taken` does, and the one from `next` if
+/// `passed` does.
 #[cycle(walking)]
 fn walk_both(
     table: &mut Table,
@@ -219,7 +220,8 @@ fn walk_insn(
     }
 }
 
-/// The same with the terms of `after`; of these nothing is kept beyond the walk.
+/// Walks over the instruction with the terms of `after`, for which nothing stays cached beyond the
+/// walk.
 #[cycle(walking)]
 fn walk_insn_with(
     table: &mut Table,
@@ -251,7 +253,8 @@ fn walk_insn_with(
     walk_insn(table, shifts, &mut fresh, program, fuel, index, after)
 }
 
-/// The same where steps are counted: one has to be left, and the walk goes on with one less.
+/// Walks over the instruction if steps are counted: one has to be left, and the walk goes on with
+/// one less.
 #[cycle(walking)]
 fn walk_counted(
     table: &mut Table,
@@ -310,8 +313,8 @@ pub(crate) fn walk_from(
     }
 }
 
-/// The term of the walk from index 0, where all steps are left, if they are counted; `start` is
-/// each of the machine's variables for itself.
+/// The term of the walk from index 0, with all steps left, if they are counted; `start` has each of
+/// the machine's variables for itself.
 pub(crate) fn walk_entry(
     table: &mut Table,
     shifts: &mut Memo,
