@@ -99,9 +99,10 @@ fn with_proofs(
 }
 
 /// Returns the sequent of the conclusion of the rule with this number, at these parameters and
-/// premises, under the hypotheses `hyps`: None if they don't have the rule's form.
+/// premises, under the hypotheses `hyps`: None if the signature lacks the rule, or if they don't
+/// have its form.
 ///
-/// Errors: out of memory; each id keeps its tree.
+/// Errors: out of memory, also if a variable might reach 2^32; each id keeps its tree.
 pub fn by_rule<S: Known>(
     alloc: Global,
     table: &mut Table,
