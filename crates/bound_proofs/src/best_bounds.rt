@@ -31,7 +31,7 @@ use hereditary_subst::{Exhausted, Memo};
 use lf_rules::numbers::{AND_LE, BIC_LE};
 use term_table::{Id, Table};
 
-/// What is chosen as the bound of the expression, which is kept.
+/// The choice of the expression's bound, which is cached.
 #[cycle(choosing)]
 pub(crate) fn choice_of(
     table: &Table,
@@ -89,7 +89,7 @@ fn choice_anew(
     }
 }
 
-/// What is chosen as the upper bound, by those of an operator's parts.
+/// The choice of the upper bound, by the upper bounds of an operator's parts.
 #[cycle(choosing)]
 fn upper_choice(
     table: &Table,
@@ -119,7 +119,7 @@ fn upper_choice(
     }
 }
 
-/// What is chosen as the lower bound, by that of what a difference is taken from.
+/// The choice of the lower bound, by the lower bound of a difference's minuend.
 #[cycle(choosing)]
 fn lower_choice(
     table: &Table,

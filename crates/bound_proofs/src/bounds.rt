@@ -38,8 +38,8 @@ pub(crate) enum Side {
     Lower,
 }
 
-/// That the first is at most the second, one being the expression and the other a word, which is
-/// the variable 0 under a binder.
+/// The formula that the first is at most the second, one being the expression and the other a word,
+/// which is the variable 0 under a binder.
 #[tactic(auto, using(hereditary_subst::proofs::Rows::rows))]
 pub(crate) fn placed(table: &mut Table, memo: &mut Memo, side: Side, e: Id) -> Result<Id, Exhausted>
     requires e { IsKnown table.old e }
@@ -77,7 +77,7 @@ fn oper_of_words(table: &mut Table, op: Op, v: u64, w: u64) -> Result<Id, AllocE
     oper(table, op, left, right)
 }
 
-/// That a word is at most the variable 0 under a binder.
+/// The formula that a word is at most the variable 0 under a binder.
 fn word_below_place(table: &mut Table, w: u64) -> Result<Id, AllocError>
     ensures id { IfOk result (IsIdOf table.new (form_encoding (FRel Ule (ELit w) (EVar 0)))) }
     ensures extends { Extends table.old table.new }

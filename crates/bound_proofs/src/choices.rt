@@ -21,7 +21,7 @@ use formula_ids::{Hypothesis, literal};
 use term_table::{Id, Table};
 use word_ops::{Op, apply};
 
-/// What a bound holds by.
+/// The reason for a bound.
 #[derive(Clone, Copy)]
 pub(crate) enum By {
     /// No word is more than the greatest, and none is less than 0.
@@ -261,8 +261,8 @@ pub(crate) fn choice_of_parts(
     by_hyps(table, Side::Upper, hyps, e, best)
 }
 
-/// The lower bound of a difference from the word `w`, if its left side's lower bound is the word
-/// `v`; else the limit.
+/// The lower bound of a difference with the subtrahend `w`, if the minuend's lower bound is the
+/// word `v`; else the limit.
 fn by_difference(w: u64, v: u64) -> Choice
     ensures { (Γ : Hyps) (x : Exp) → v ≡ (lower_bound true Γ x).value
         → IsChoice Lower Γ (EOp Sub x (ELit w)) (greatest_bound

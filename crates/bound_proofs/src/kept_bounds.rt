@@ -65,7 +65,7 @@ impl KeptBounds {
         }
     }
 
-    /// The choice that is kept of the expression.
+    /// The cached choice for the expression.
     pub(crate) fn choice(
         &self,
         table: &Table,
@@ -85,7 +85,7 @@ impl KeptBounds {
         }
     }
 
-    /// The proof that is kept of the expression.
+    /// The cached proof for the expression.
     pub(crate) fn proof(&self, table: &Table, hyps: &[Hypothesis], side: Side, e: Id) -> Option<Id>
         requires { AreBounds table.now hyps.now self.now }
         ensures known { IfSome result (IsKnown table.now) }

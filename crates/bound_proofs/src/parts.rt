@@ -40,10 +40,10 @@ pub(crate) struct Ceiling {
     pub(crate) rule: u32,
 }
 
-/// A difference from a word.
+/// A difference whose subtrahend is a word.
 #[derive(Clone, Copy)]
 pub(crate) struct Difference {
-    /// What it is taken from.
+    /// The minuend.
     pub(crate) left: Id,
     pub(crate) word: u64,
 }
@@ -65,7 +65,7 @@ pub(crate) enum How {
     Sum,
     /// An operator that never passes a word.
     Capped(Ceiling),
-    /// A difference of its left operand from this word, bounded from below, if it doesn't wrap.
+    /// Its left operand minus this word, bounded from below, if it doesn't wrap.
     Difference(u64),
 }
 
@@ -364,7 +364,7 @@ pub(crate) fn by_sum(
     )
 }
 
-/// A difference of `a` from the word `w`, if `a` is at least `v`, and `v` at least `w`.
+/// `a` minus the word `w`, if `a` is at least `v`, and `v` at least `w`.
 #[tactic(auto, using(hereditary_subst::proofs::Rows::rows))]
 pub(crate) fn by_difference(
     table: &mut Table,

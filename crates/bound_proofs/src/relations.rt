@@ -28,7 +28,7 @@ use word_ops::{Op, Rel, apply};
 /// The kinds of relations that bound an expression by a word.
 #[derive(Clone, Copy)]
 pub(crate) enum Kind {
-    /// Of expression and word the one is at most the other.
+    /// One of expression and word is at most the other.
     AtMost,
     /// The one is less than the other.
     Less,
@@ -61,7 +61,7 @@ fn to_word(table: &Table, kind: Kind, a: Id, b: Id, e: Id) -> Option<Related>
     }
 }
 
-/// What is less than 0 bounds nothing.
+/// The relation, unless it says less than 0, which bounds nothing.
 fn unless_zero(related: Option<Related>) -> Option<Related>
     ensures { (x y z : Exp) → IsToWord Less x y z related
         → IsRelated Upper x (FRel Ult y z) result }
@@ -139,7 +139,7 @@ pub(crate) fn bound_word(side: Side, kind: Kind, value: u64) -> u64
     }
 }
 
-/// What is less than a word is at most the word before.
+/// The bound of an expression that is less than a word: at most the word minus 1.
 #[tactic(auto, using(hereditary_subst::proofs::Rows::rows))]
 fn by_less(
     table: &mut Table,
@@ -165,7 +165,7 @@ fn by_less(
     folded(table, memo, Side::Upper, e, Op::Sub, w, 1, before)
 }
 
-/// What is more than a word is at least it.
+/// The bound of an expression that is more than a word: at least the word.
 fn by_more(table: &mut Table, e: Id, w: u64, word: Id, proof: Id) -> Result<Bound, Exhausted>
     requires e { IsKnown table.old e }
     requires word { IsKnown table.old word }
@@ -183,7 +183,7 @@ fn by_more(table: &mut Table, e: Id, w: u64, word: Id, proof: Id) -> Result<Boun
     })
 }
 
-/// What equals a word is bounded by it.
+/// The bound of an expression that equals a word: the word.
 #[tactic(auto, using(hereditary_subst::proofs::Rows::rows))]
 fn by_equal(
     table: &mut Table,

@@ -81,7 +81,8 @@ fn written(alloc: Global, view: &View<'_>, proof: Id) -> Result<Vec<u8>, ProveFa
     }
 }
 
-/// What passed the clauses before the proof and those of its lemmas, with a proof.
+/// The container that passed the acceptance checks before the proof and those of its lemmas, with a
+/// proof.
 fn proved(
     alloc: Global,
     policy: &Policy,

@@ -78,7 +78,7 @@ impl Comparisons {
         }
     }
 
-    /// Keeps what a walk with the terms of `after` kept.
+    /// Takes over what a walk with the terms of `after` cached.
     pub(crate) fn resume(
         &mut self,
         table: &Table,

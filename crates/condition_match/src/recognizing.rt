@@ -66,7 +66,8 @@ fn is_entry(
     is_walk_entry(table, shifts, kept, program, start, parts.second)
 }
 
-/// Whether `goal` is the part of an annotated index: that its invariant leads to the walk from there.
+/// Whether `goal` is the part of the condition for a cut point: that its invariant implies the walk
+/// from there.
 #[tactic(auto, using(vcgen::proofs::Walking::memos))]
 fn is_inv_part(
     table: &mut Table,
@@ -181,8 +182,8 @@ fn is_condition_of(
     are_inv_parts(table, shifts, &mut kept, program, &start, 0, rest)
 }
 
-/// Whether `goal` is the encoding of the condition of code, its unfolded length being within its
-/// limit.
+/// Whether `goal` is the encoding of the condition of code. The total length of the paths between
+/// cut points has to be within its limit.
 #[tactic(auto, using(vcgen::proofs::Walking::memos))]
 fn is_encoded_condition(
     table: &mut Table,

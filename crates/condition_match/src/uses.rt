@@ -44,7 +44,7 @@ impl Uses {
         }
     }
 
-    /// The answer that is kept.
+    /// The cached answer.
     fn find(&self, table: &Table, place: &Place) -> Option<bool>
         requires { AreUses table.now self.now }
         ensures { IfSome result (IsRow table.now place.now) }

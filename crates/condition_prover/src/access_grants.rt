@@ -55,7 +55,7 @@ fn down(table: &mut Table, form: Id, way: &[Side], proof: Id) -> Result<Id, Allo
     }
 }
 
-/// The proof of the access that is asked for, from an implication by `proof`, by what was found.
+/// The proof of the access that the goal names, from an implication by `proof`, by what was found.
 #[tactic(auto, using(goal_proofs::proofs::Kept::rows))]
 fn granted(
     table: &mut Table,
@@ -115,7 +115,7 @@ fn instance_proof(
     Ok(instance)
 }
 
-/// The proof of the access that is asked for, from a quantified implication.
+/// The proof of the access that the goal names, from a quantified implication.
 #[tactic(auto, using(goal_proofs::proofs::Kept::rows))]
 fn granted_instance(
     table: &mut Table,
@@ -150,7 +150,7 @@ fn granted_instance(
     Ok(made)
 }
 
-/// The proof of the access that is asked for, from the hypothesis, by what was found.
+/// The proof of the access that the goal names, from the hypothesis, by what was found.
 #[tactic(auto, using(goal_proofs::proofs::Kept::rows))]
 fn granted_by(
     table: &mut Table,

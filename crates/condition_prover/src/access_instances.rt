@@ -154,7 +154,7 @@ fn scaled_rest(table: &mut Table, scaled: bool, rest: Option<Id>) -> Result<Opti
     }
 }
 
-/// What is put for the variable of an address with this base.
+/// The expression to put for the variable of an address with this base.
 #[tactic(auto, using(goal_proofs::proofs::Kept::rows))]
 fn index_at(
     table: &mut Table,

@@ -20,7 +20,7 @@ use std::alloc::AllocError;
 use sum_proofs::equal_proof;
 use term_table::{Id, Node, Table};
 
-/// Whether the access that is given is the one that is asked for.
+/// Whether the given access is the one that the goal names.
 pub(crate) fn is_asked(asked: Access, given: Access) -> bool
     ensures { (z : Exp) → right_address (access_of asked) (right_form given z)
         ≡ if result then Some z else None }

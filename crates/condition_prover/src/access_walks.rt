@@ -293,7 +293,7 @@ fn found_at(
     }
 }
 
-/// What was found, one conjunction further out. Kept out of the walk's frames.
+/// The result, one conjunction further out. Kept out of the walk's frames.
 #[inline(never)]
 fn from_side(found: Found, side: Side) -> Result<Option<Found>, AllocError>
     ensures known { (t : TableView) → IsKnownFound t found

@@ -38,7 +38,7 @@ use vcgen::{VcFault, vc};
 /// than a check's limit, since a goal that occurs in 2^16 contexts has to be decided in each.
 pub const MOST_SEARCHED: usize = 6_500_000;
 
-/// What is known of cut code.
+/// States what holds of every `Cut`; runs nothing.
 fn is_cut_code(cut: &Cut)
     ensures code { IsCode cut.now.code }
     ensures cut { IsCut cut.now.code cut.now.marks }
@@ -46,7 +46,7 @@ fn is_cut_code(cut: &Cut)
     let _ = cut.code().insns();
 }
 
-/// What its type says of a bound.
+/// States that a bound is a word, by its type; runs nothing.
 fn is_word(bound: Option<u32>)
     ensures { IsBound bound }
 {

@@ -122,7 +122,7 @@ impl Context {
         })
     }
 
-    /// What is kept of the goal, searched for by these means.
+    /// The cached result for the goal, searched for by these methods.
     pub(crate) fn found(&self, table: &Table, means: Means, goal: Id) -> Option<Option<Id>>
         requires { IsContext table.now self.now }
         ensures { let c = self.now in

@@ -18,7 +18,7 @@ use term_table::{Id, Table};
 /// How many steps that cache nothing count as one result.
 pub const STEPS_A_RESULT: u64 = 16;
 
-/// What is asked of a tree, by ids and counts.
+/// A cache key: an operation on a tree, by ids and counts.
 #[derive(Clone, Copy, PartialEq, Eq, PartialOrd, Ord)]
 pub(crate) enum Question {
     /// Shifts the tree of the third id: each variable from the second number on is raised by the
@@ -37,15 +37,15 @@ pub(crate) enum Question {
     Type(u64, u64, u64, u64),
 }
 
-/// What a tree becomes, as it is kept.
+/// A result as it is cached.
 #[derive(Clone, Copy)]
 struct Row {
     term: u64,
     met: Option<u64>,
 }
 
-/// What a tree becomes. Of an atomic term whose head was the variable, also the type that remains; of
-/// a lowering, an id says that the variable may occur.
+/// The result of an operation on a tree. For an atomic term whose head was the variable it also has
+/// the type that remains. For a lowering, an id there says that the variable may occur.
 #[derive(Clone, Copy)]
 pub(crate) struct Atom {
     pub(crate) term: Id,
@@ -147,7 +147,7 @@ impl Memo {
         Ok(())
     }
 
-    /// What is kept of the question, as numbers.
+    /// The cached result for the question, as numbers.
     fn row(&self, table: &Table, question: &Question) -> Option<Row>
         requires { IsMemo table.now self.now }
         ensures { IfSome result (λ a. Says table.now question.now a.term a.met) }
@@ -156,7 +156,7 @@ impl Memo {
         self.rows.get(question).copied()
     }
 
-    /// What is kept of the question.
+    /// The cached result for the question.
     pub(crate) fn find(&self, table: &Table, question: &Question) -> Option<Atom>
         requires { IsMemo table.now self.now }
         ensures { IfSome result (λ a. Says table.now question.now a.term a.met) }

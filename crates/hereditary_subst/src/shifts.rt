@@ -11,8 +11,9 @@ use crate::exhausted::Exhausted;
 use crate::kept::{Memo, Question, number};
 use term_table::{Id, Node, Table};
 
-/// Of a tree that isn't higher than this, as an equation of two words without parts, no row is
-/// kept: its parts, seven at most, are gone through faster than a row is found. It is counted.
+/// The greatest height of a tree whose result isn't cached, such as an equation of two words
+/// without parts: its parts, seven at most, are visited faster than a row is found. The visit is
+/// counted.
 const MOST_WITHOUT_ROW: u32 = 3;
 
 /// The greatest height of a tree for which nothing is counted: it is part of a tree that is

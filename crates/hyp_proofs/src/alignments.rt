@@ -60,7 +60,7 @@ fn question_of(e: Id) -> Aligned
     Aligned { exp: number(e) }
 }
 
-/// That the expression is a multiple of 8: `(eq (band e 7) 0)`.
+/// The formula that the expression is a multiple of 8: `(eq (band e 7) 0)`.
 fn aligned_form(table: &mut Table, e: Id) -> Result<Id, AllocError>
     requires { IsKnown table.old e }
     ensures known { IfOk result (IsKnown table.new) }
@@ -74,7 +74,7 @@ fn aligned_form(table: &mut Table, e: Id) -> Result<Id, AllocError>
     relation(table, Rel::Eq, left, zero)
 }
 
-/// That the expression equals a word, which is the variable 0 under a binder.
+/// The formula that the expression equals a word, which is the variable 0 under a binder.
 #[tactic(auto, using(hereditary_subst::proofs::Rows::rows))]
 fn equal_place(table: &mut Table, memo: &mut Memo, e: Id) -> Result<Id, Exhausted>
     requires e { IsKnown table.old e }

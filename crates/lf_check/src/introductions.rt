@@ -39,7 +39,7 @@ pub(crate) struct Rule {
     quantifier: Id,
 }
 
-/// What an application asks of its arguments, as types, and the type that it has then.
+/// The types that an application requires of its arguments, and the type that it then has.
 #[derive(Clone, Copy)]
 pub(crate) struct Introduction {
     pub(crate) predicate: Id,
@@ -221,7 +221,7 @@ fn rule_on<S: Signature>(
     }
 }
 
-/// What the rule asks and gives, with the predicate of that body in it.
+/// The types that the rule requires and gives, with the predicate of that body in it.
 fn fitted_on<S: Signature>(
     table: &mut Table,
     kept: &Kept,

@@ -21,7 +21,7 @@ use term_table::{Id, Table};
 /// How many steps along contexts, which cache nothing, count as one judgement.
 pub const STEPS_A_JUDGEMENT: u64 = 64;
 
-/// What is asked of a term or type, by ids.
+/// A cache key: a judgement on a term or type, by ids.
 #[derive(Clone, Copy, PartialEq, Eq, PartialOrd, Ord)]
 pub(crate) enum Question {
     /// The type that the term synthesises.
@@ -121,7 +121,9 @@ impl Kept {
         Ok(())
     }
 
-    /// Counts a result that is kept elsewhere. Fails past the limit, by `Results`.
+    /// Counts a result that is cached elsewhere.
+    ///
+    /// Errors: `Results` past the limit.
     pub(crate) fn spend<S: Signature>(&mut self, table: &Table, sig: &S) -> Result<(), Exhausted>
         requires { AreKept (S.declares sig.now table.now) table.now self.old }
         ensures kept { AreKept (S.declares sig.now table.now) table.now self.new }
@@ -133,7 +135,7 @@ impl Kept {
         Ok(())
     }
 
-    /// What is kept of the question, as numbers.
+    /// The cached answer to the question, as numbers.
     fn row<S: Signature>(&self, table: &Table, sig: &S, question: &Question) -> Option<Row>
         requires { AreKept (S.declares sig.now table.now) table.now self.now }
         ensures { let declared = S.declares sig.now table.now in
@@ -145,7 +147,7 @@ impl Kept {
         self.rows.get(question).copied()
     }
 
-    /// What is kept of the question.
+    /// The cached answer to the question.
     pub(crate) fn find<S: Signature>(
         &self,
         table: &Table,

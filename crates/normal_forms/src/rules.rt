@@ -80,7 +80,7 @@ fn summand_key(table: &Table, outside: u32, e: Id) -> u32
     }
 }
 
-/// What the operator at two operands is as an operand.
+/// The operator at two operands, as an operand.
 fn applied_summand(op: Op, a: Id, b: Id) -> Summand
     ensures { result ≡ applied_summand op a b }
 {
@@ -90,7 +90,7 @@ fn applied_summand(op: Op, a: Id, b: Id) -> Summand
     }
 }
 
-/// What the operand is.
+/// The kind of an operand.
 fn operand(table: &Table, e: Id) -> Summand
     requires { IsKnown table.now e }
     ensures known { IsKnownSummand table.now result }

@@ -20,7 +20,7 @@ use policy_set::Policy;
 use proof_container::signature_of;
 use std::alloc::Global;
 
-/// Clauses 9, 10, 14 and 11 of what passed those before.
+/// Acceptance checks 9, 10, 14 and 11 of a container that passed those before.
 fn judge(
     alloc: Global,
     kept: &mut Kept,

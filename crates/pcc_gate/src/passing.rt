@@ -66,7 +66,7 @@ fn formed(
     }
 }
 
-/// Clauses 5, 6, 13, 7 and 8 in the signature: the code with its annotated indices.
+/// Acceptance checks 5, 6, 13, 7 and 8 in the signature: returns the code with its cut points.
 fn shaped(
     alloc: Global,
     kept: &mut Kept,
@@ -132,7 +132,7 @@ fn rest<'b>(
     Ok(Passed { container, cut })
 }
 
-/// The clauses before the proof, with what is kept of the judgements.
+/// The acceptance checks before the proof, with the cached judgements.
 pub(crate) fn pass<'b>(
     alloc: Global,
     kept: &mut Kept,
@@ -168,7 +168,8 @@ pub fn front<'b>(alloc: Global, policy: &Policy, bytes: &'b [u8]) -> Result<Pass
     pass(alloc, &mut kept, policy, bytes)
 }
 
-/// Clauses 10 and 14 of the lemmas alone, of what passed the clauses before the proof.
+/// Acceptance checks 10 and 14 for the lemmas alone, of a container that passed those before the
+/// proof.
 fn good_lemmas<'b>(
     alloc: Global,
     kept: &mut Kept,

@@ -51,8 +51,8 @@ pub fn lemmas_weight(table: &Table, signature: WordSignature, lemmas: &[(Id, Id)
     }
 }
 
-/// Clauses 9 and 10: the proof, which with the proofs of lemmas isn't too heavy by the parameters
-/// of the signature.
+/// Acceptance checks 9 and 10: returns the proof, whose weight with the lemmas' proofs isn't too
+/// great by the parameters of the signature.
 pub(crate) fn proof_in(
     table: &Table,
     signature: WordSignature,
@@ -77,7 +77,7 @@ pub(crate) fn proof_in(
     }
 }
 
-/// Clause 10 of the proofs of lemmas alone.
+/// Acceptance check 10 for the lemmas' proofs alone.
 pub(crate) fn lemmas_light(
     table: &Table,
     signature: WordSignature,
@@ -94,7 +94,8 @@ pub(crate) fn lemmas_light(
     Ok(())
 }
 
-/// Clause 14: over the signature each lemma's proof proves its formula with the lemmas before it.
+/// Acceptance check 14: over the signature each lemma's proof proves its formula with the lemmas
+/// before it.
 pub(crate) fn lemmas_proved(
     alloc: Global,
     table: &mut Table,
@@ -144,9 +145,9 @@ fn formula_proved(
     proved_with(table, kept, &extended, proof)
 }
 
-/// Clause 11: over the signature with all lemmas the proof proves the verification condition with
-/// that bound. What it proves is found first and the condition compared with that, so no condition
-/// is written out that a proof is too small for.
+/// Acceptance check 11: over the signature with all lemmas the proof proves the verification
+/// condition with that bound. The formula that it proves is found first and compared with the
+/// condition, so no condition is built that a proof is too small for.
 pub(crate) fn proved(
     table: &mut Table,
     kept: &mut Kept,

@@ -47,7 +47,7 @@ fn head(fields: &mut Fields<'_>, table: &Table) -> Result<Id, Malformed>
     }
 }
 
-/// What the next two fields name, the one applied to the other.
+/// The application of the two entries that the next two fields name, the first to the second.
 fn application(fields: &mut Fields<'_>, table: &Table) -> Result<Node, Malformed>
     ensures read { Decodes (node_tree table.now)
         (application_at fields.old.bytes.now fields.old.read table.now.trees) result }

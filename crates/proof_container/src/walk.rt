@@ -31,7 +31,7 @@ impl Walk {
     }
 }
 
-/// What a walk has yet to do.
+/// A step that a walk has yet to do.
 #[derive(Clone, Copy)]
 enum Step {
     /// To leave what the tree is made of, and it, unless it has been left.

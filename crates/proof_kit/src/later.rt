@@ -219,7 +219,7 @@ pub fn bic_def<S: Known>(
     by_rule(alloc, table, sig, kept, hyps, BIC_DEF, &[a, b], &[])
 }
 
-/// Proves that differences from a word keep the order if the lesser one doesn't wrap.
+/// Proves that subtracting a word keeps the order if the lesser difference doesn't wrap.
 ///
 /// `sub_lo a b c ; (ule b a), (ule c b) |- (ule (sub b c) (sub a c))`
 pub fn sub_lo<S: Known>(

@@ -55,7 +55,7 @@ impl Question for Place {
 /// in the limit of the `Memo` that caches the shifts.
 pub type NormalForms = Kept<Place>;
 
-/// What is rewritten after one step; `above` is the expression at first, under one more binder.
+/// The result after one step; `above` is the expression at first, under one more binder.
 fn after_step(
     table: &mut Table,
     above: Id,
@@ -80,7 +80,7 @@ fn after_step(
     })
 }
 
-/// What is rewritten after the steps.
+/// The result after the steps.
 fn after_steps(
     table: &mut Table,
     above: Id,
@@ -108,7 +108,7 @@ fn after_steps(
     }
 }
 
-/// What is rewritten after one more round, unless there is nothing to rewrite.
+/// The result after one more round, unless there is nothing to rewrite.
 #[tactic(auto, using(hereditary_subst::proofs::Rows::rows))]
 fn next(
     table: &mut Table,

@@ -53,7 +53,7 @@ pub(crate) struct Rewrite {
     pub(crate) after: Id,
 }
 
-/// What is rewritten at one place, one after another.
+/// The rewritings at one place, one after another.
 #[derive(Clone, Copy)]
 pub(crate) enum Rewrites {
     /// There is nothing to rewrite.
@@ -408,7 +408,7 @@ fn all_under_right(
     }
 }
 
-/// What the operator `op` at `a` and `b`, which is `e`, is rewritten to by the rule.
+/// The rewritings of the operator `op` at `a` and `b`, which is `e`, by the rule.
 #[tactic(auto, using(hereditary_subst::proofs::Rows::rows))]
 fn rewrites_by(
     table: &mut Table,
@@ -450,7 +450,7 @@ fn rewrites_by(
     }
 }
 
-/// What is rewritten first in the expression, if anything is.
+/// The first rewriting in the expression, if there is one.
 #[cycle(redex)]
 #[tactic(auto, using(hereditary_subst::proofs::Rows::rows))]
 pub(crate) fn redex(
@@ -473,7 +473,7 @@ pub(crate) fn redex(
     }
 }
 
-/// What is rewritten first in the operator at `a` and `b`, which is `e`.
+/// The first rewriting in the operator at `a` and `b`, which is `e`.
 #[cycle(redex)]
 #[tactic(auto, using(hereditary_subst::proofs::Rows::rows))]
 fn redex_of_parts(

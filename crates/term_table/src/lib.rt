@@ -300,7 +300,7 @@ fn entry_of(entries: &[Entry], places: Places, node: Node) -> Entry
     }
 }
 
-/// What the fields' types say of a node's numbers.
+/// States that a node's numbers fit their fields, by the fields' types; runs nothing.
 fn numbers(node: Node)
     ensures { IsSmallNode node }
 {

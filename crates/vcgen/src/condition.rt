@@ -149,7 +149,8 @@ fn condition_of(
     Ok(app2(table, AND, entry, rest)?)
 }
 
-/// The encoding of the condition of code, its unfolded length being within its limit.
+/// The encoding of the condition of code. The total length of the paths between cut points has to
+/// be within its limit.
 #[tactic(auto, using(crate::proofs::Walking::memos))]
 fn encoded_condition(
     table: &mut Table,

@@ -59,7 +59,7 @@ impl Symbols {
         Ok(Symbols { regs, memory, left })
     }
 
-    /// Another term for a register; none is kept for register 31.
+    /// These terms, with another term for a register; register 31 gets none.
     pub(crate) fn with_reg(&self, table: &Table, reg: Reg, id: Id) -> Symbols
         requires ready { AreMachineTerms table.now (ids_of self.now) }
         requires known { IsKnown table.now id }

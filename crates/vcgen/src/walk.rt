@@ -147,7 +147,7 @@ fn walk_both(
     Ok(app2(table, AND, first, second)?)
 }
 
-/// That the formula `allowed` holds, and the walk from `index` with the terms of `after`.
+/// The formula that `allowed` holds, and that the walk from `index` with the terms of `after` does.
 #[cycle(walking)]
 fn walk_behind(
     table: &mut Table,
