@@ -2,7 +2,7 @@
 //!
 //! The layer above uses that `prove` returns the container in the bytes with a proof of its
 //! verification condition in place of its own, if the prover finds one (`condition_prover`,
-//! `prover_class`), or else the first reason why not (`specs/Proving`); and that the container
+//! `prover_class`). Else it returns the first reason why not (`specs/Proving`). The container
 //! checker accepts the result (`specs/ProvedLaws`). Source: Necula, Proof-Carrying Code, POPL 1997
 //! (the rules); the search is this project's own.
 #![tactic(auto)]

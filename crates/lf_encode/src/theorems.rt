@@ -25,12 +25,12 @@ ghost use Rattle.lf_encode.specs.Contexts.{exp_encoding_in, mem_encoding_in, enc
 ghost use Rattle.lf_encode.specs.Contexts.{EncodesForm, EncodesExp, EncodesMem, machine_names};
 ghost use Rattle.lf_encode.specs.PutTree.{machine_terms_of, put_tree};
 
-/// States that the encoding is adequate over a signature of word arithmetic. In a context of word
-/// and memory variables, whose nearest is last, a term of type form, exp or mem is the encoding of
-/// exactly one formula, expression or memory over the context, of the signature's operators and
-/// without register 31. Conversely, the encoding of each formula, expression or memory of these
-/// operators over the context, also with register 31, has the type if its height and the context's
-/// length are below 2^31.
+/// States that the encoding is adequate over a signature of word arithmetic, in a context of word
+/// and memory variables, whose nearest is last. A term of type form, exp or mem is the encoding of
+/// exactly one formula, expression or memory over the context. That one has the signature's
+/// operators alone and no register 31. Conversely, take a formula, expression or memory of these
+/// operators over the context, also with register 31. Its encoding has the type if its height and
+/// the context's length are below 2^31.
 pub fn adequacy_laws()
     ensures forms { (sig : Const → Option Tree) → IsKnownSignature sig →
         (ctx : List Sort) (t : Tree) → Checks sig (sort_types ctx) t form →
@@ -144,9 +144,9 @@ pub fn scope_laws()
         IsFormIn rest r (subst_var F x p) }
 {}
 
-/// States that substituting terms for the machine's variables in the encoding of a formula, where
-/// `B` are the nearer variables, gives the encoding of the formula after the terms' formulas were
-/// substituted for registers, m and the remaining steps.
+/// States that substitution for the machine's variables commutes with encoding. Substituting terms
+/// for them in the encoding of a formula, where `B` are the nearer variables, gives the encoding of
+/// another formula: the terms' formulas are substituted for registers, m and the remaining steps.
 pub fn put_laws()
     ensures { (left : Bool) (r : ℕ) (F : Form) (B : List VarSort) (s : Substitution) →
         length s.regs ≡ 31 → IsWithin left r F B →

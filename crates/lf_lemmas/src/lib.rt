@@ -2,11 +2,13 @@
 //!
 //! A proof that proves one formula many times may state it once, as a lemma, and cite the lemma by
 //! its number. The layers above use [`WithLemmas`], a signature that gives the lemmas of a list
-//! their types, and the theorem that lemmas add no proving power (`laws`). The proofs of all lemmas
-//! and one more proof check with lemmas exactly if each lemma cites earlier ones alone and all
-//! proofs check with every lemma inlined, that is, replaced by its proof until none is left. So
-//! whatever is accepted with lemmas is proved by the signature alone. The theorem holds if no type
-//! depends on a proof (`specs/Orderly`), as in every signature of word arithmetic.
+//! their types, and the theorem that lemmas add no proving power (`laws`).
+//!
+//! To inline lemmas is to replace each by its proof until none is left. The theorem compares two
+//! checks of the lemmas' proofs and one more proof. They check with lemmas exactly if each lemma
+//! cites earlier ones alone and they all check with every lemma inlined. So whatever is accepted
+//! with lemmas is proved by the signature alone. The theorem holds if no type depends on a proof
+//! (`specs/Orderly`), as in every signature of word arithmetic.
 //!
 //! `specs/Lemmas` defines lemmas, `specs/WrittenOut` inlining, `specs/Checking` what checks, and
 //! `specs/Tables` what a table has to hold. Source: Appel and Felty, Lightweight Lemmas in Lambda

@@ -58,8 +58,8 @@ pub fn prove_true<S: Truthful>(
 }
 
 /// Returns whether the term `proof` is a proof, over `sig`, of the formula that the term `goal`
-/// encodes, as `prove_true` does, with the cached results of earlier calls on the table over the
-/// signature in `kept`.
+/// encodes, as `prove_true` does. `kept` has the cached results of earlier calls on the table over
+/// the signature.
 ///
 /// Errors: out of memory, or the limit of `kept` is reached; each id keeps its tree.
 pub fn prove_true_with<S: Truthful>(

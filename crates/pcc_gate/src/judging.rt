@@ -65,9 +65,11 @@ fn judge(
 /// Checks whether `bytes` are a container that is accepted under `policy`, and returns its code.
 /// All acceptance checks have to pass. The last one is that the proof, with the lemmas that the
 /// container has, proves the verification condition of the policy, the bound, the code and the
-/// invariants. It passes exactly if it does with every lemma inlined (`specs/WrittenOut`). If the
-/// container has a step bound, a run of the code with a step limit of at least the bound returns,
-/// from every state at index 0 that satisfies the precondition, under any access rights.
+/// invariants. It passes exactly if it does with every lemma inlined (`specs/WrittenOut`).
+///
+/// If the container has a step bound, the code returns within it: a run with a step limit of at
+/// least the bound returns. That holds from every state at index 0 that satisfies the precondition,
+/// under any access rights.
 ///
 /// Errors: `Refused` names the first check that fails (`specs/First`), exactly if one does; the
 /// checks are tried in order. `Memory` says nothing about `bytes`. One cache of at most

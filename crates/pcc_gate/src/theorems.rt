@@ -11,11 +11,11 @@ use lf_truth::truth_laws;
 /// States what acceptance and refusals mean. Bytes are accepted exactly if no check is the first
 /// that fails, and exactly if they are accepted with every lemma inlined. The checks before the
 /// proof pass exactly if none of them is the first that fails. A refusal is the first exactly if
-/// the checks before it pass and its own fails, with its value (`specs/Refusals`), also among the
-/// checks before the proof alone, and among these and those of the lemmas alone. Bytes hold at most
-/// one container. The code of accepted bytes is safe for the policy, and if its steps are bounded,
-/// it returns within the bound. Some bytes are accepted whose code loads, stores and loops, without
-/// lemmas, and with one that the proof cites.
+/// the checks before it pass and its own fails, with its value (`specs/Refusals`). That holds also
+/// among the checks before the proof alone, and among these and those of the lemmas alone. Bytes
+/// hold at most one container. The code of accepted bytes is safe for the policy, and if its steps
+/// are bounded, it returns within the bound. Some bytes are accepted whose code loads, stores and
+/// loops, without lemmas, and with one that the proof cites.
 pub fn laws()
     ensures accepted { AcceptedFirst }
     ensures passed { PassedFirst }
