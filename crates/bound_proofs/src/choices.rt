@@ -117,8 +117,8 @@ fn with_hyp(
     }
 }
 
-/// The best of what the hypotheses say of the expression, and the last. They are taken from the last
-/// to the first, so that of equal bounds the first hypothesis' stays.
+/// The best of what the hypotheses say of the expression, and the last. They are taken from the
+/// last to the first, so that of equal bounds the first hypothesis' stays.
 fn by_hyps(table: &Table, side: Side, hyps: &[Hypothesis], e: Id, last: Choice) -> Choice
     requires hyps { AreKnownHyps table.now hyps.now }
     requires e { IsKnown table.now e }
@@ -198,7 +198,8 @@ fn by_operator(op: Op, last: Choice) -> Choice
     }
 }
 
-/// The least of what the operator's parts, whose upper bounds have the words `v` and `w`, say of it.
+/// The least of what the operator's parts, whose upper bounds have the words `v` and `w`, say of
+/// it.
 fn by_parts(table: &Table, op: Op, b: Id, v: u64, w: u64) -> Choice
     requires { IsKnown table.now b }
     ensures { (Γ : Hyps) (x y : Exp) → tree_at table.now b ≡ exp_encoding y
@@ -239,8 +240,8 @@ fn by_parts(table: &Table, op: Op, b: Id, v: u64, w: u64) -> Choice
     }
 }
 
-/// The least upper bound of an operator at two expressions, whose upper bounds have the words `v` and
-/// `w`.
+/// The least upper bound of an operator at two expressions, whose upper bounds have the words `v`
+/// and `w`.
 pub(crate) fn choice_of_parts(
     table: &Table,
     hyps: &[Hypothesis],

@@ -205,8 +205,8 @@ fn is_behind(
     )
 }
 
-/// Whether `goal` is the term of the walk from the instruction at `index`, whether that is annotated
-/// or not; its own step isn't counted.
+/// Whether `goal` is the term of the walk from the instruction at `index`, whether that is
+/// annotated or not; its own step isn't counted.
 #[cycle(comparing)]
 fn is_insn(
     table: &mut Table,
@@ -329,8 +329,8 @@ fn is_counted(
     )
 }
 
-/// Whether `goal` is the term of the walk from the instruction at `index`, whether that is annotated
-/// or not.
+/// Whether `goal` is the term of the walk from the instruction at `index`, whether that is
+/// annotated or not.
 #[cycle(comparing)]
 pub(crate) fn is_walk_from(
     table: &mut Table,

@@ -52,8 +52,8 @@ impl Question for Put {
 /// Cached results of substitutions on one table.
 pub type Puts = Kept<Put>;
 
-/// The word variable `n`, whose id is `id`, with what is put for the variable `x`; variables past it
-/// are one less.
+/// The word variable `n`, whose id is `id`, with what is put for the variable `x`; variables past
+/// it are one less.
 fn put_word_variable(table: &mut Table, id: Id, n: u32, x: u64, arg: Id) -> Result<Id, AllocError>
     requires id { IsKnown table.old id }
     requires arg { IsKnown table.old arg }

@@ -16,8 +16,8 @@ use normal_forms::PlainForms;
 use sum_proofs::{NormalForms, Occurrences};
 use term_table::{Id, Table};
 
-/// As so many steps a term counts, which are three results: it takes as much time and memory, since more
-/// terms are looked up than made.
+/// As so many steps a term counts, which are three results: it takes as much time and memory, since
+/// more terms are looked up than made.
 const STEPS_A_TERM: u64 = 48;
 
 /// The caches for all contexts, on one table. All that is cached counts in the limit of the memo,

@@ -32,7 +32,8 @@ use sum_proofs::{Rewritten, normal_form, proof_by_forms};
 use term_table::{Id, Node, Table};
 use word_ops::{Op, Rel};
 
-/// The proof that `a` is at most `b`, by an upper bound of `a` that is at most a lower bound of `b`.
+/// The proof that `a` is at most `b`, by an upper bound of `a` that is at most a lower bound of
+/// `b`.
 fn at_most_tree(table: &mut Table, a: Id, b: Id, v: Bound, w: Bound) -> Result<Id, AllocError>
     requires a { IsKnown table.old a }
     requires b { IsKnown table.old b }

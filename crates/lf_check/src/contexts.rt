@@ -46,8 +46,8 @@ pub(crate) fn context_on<S: Signature>(
     context_at(table, ctx)
 }
 
-/// The type of the variable n. Each step along the context is counted, so that the charge is for what
-/// is walked, whatever number a variable has.
+/// The type of the variable n. Each step along the context is counted, so that the charge is for
+/// what is walked, whatever number a variable has.
 pub(crate) fn type_at<S: Signature>(
     table: &Table,
     kept: &mut Kept,

@@ -1,5 +1,5 @@
-//! Applications of a rule that introduces a quantifier, as `all_i`: to an abstraction, and to a proof
-//! of its body.
+//! Applications of a rule that introduces a quantifier, as `all_i`: to an abstraction, and to a
+//! proof of its body.
 //!
 //! What such an application synthesises is made of the ids of the abstraction and of its body. By
 //! the rule of applications alone the body would be raised past the later parameters of the rule's

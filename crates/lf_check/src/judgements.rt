@@ -105,7 +105,8 @@ impl Kept {
         }
     }
 
-    /// Counts a step along a context, which keeps nothing. Fails past the limit of steps, by `Results`.
+    /// Counts a step along a context, which keeps nothing. Fails past the limit of steps, by
+    /// `Results`.
     pub(crate) fn step<S: Signature>(&mut self, table: &Table, sig: &S) -> Result<(), Exhausted>
         requires { AreKept (S.declares sig.now table.now) table.now self.old }
         ensures kept { AreKept (S.declares sig.now table.now) table.now self.new }
