@@ -1,6 +1,6 @@
-//! The bounds that are asked for: with their proofs, and the words alone.
+//! The calls for bounds: with their proofs, and the words alone.
 //!
-//! Errors: want of memory alone; each id keeps its tree.
+//! Errors: out of memory, or the limit of the memo is reached; each id keeps its tree.
 
 ghost use Rattle.std.specs.Prelude.{◌≡◌, ◌≤◌, ◌+◌, IfOk, OnOk, length};
 ghost use Rattle.term_table.specs.Table.{IsKnown, tree_at, Extends};
@@ -22,12 +22,12 @@ use formula_ids::Hypothesis;
 use hereditary_subst::{Exhausted, Memo};
 use term_table::{Id, Table};
 
-/// The words of an upper bound of one expression and of a lower bound of another.
+/// An upper bound of one expression and a lower bound of another, as words.
 #[derive(Clone, Copy)]
 pub struct BoundWords {
-    /// The word of the upper bound.
+    /// The upper bound.
     pub upper: u64,
-    /// The word of the lower bound.
+    /// The lower bound.
     pub lower: u64,
 }
 
@@ -59,12 +59,11 @@ fn lower_word(
     Ok(choice.value)
 }
 
-/// The words of the upper bound of `a` and of the lower bound of `b` that `upper_bound` and
-/// `lower_bound` would prove. `kept` has what was found under the same hypotheses. `counted` says
+/// Returns the words of the upper bound of `a` and of the lower bound of `b` that `upper_bound` and
+/// `lower_bound` would prove. `kept` has the bounds cached under these hypotheses. `counted` says
 /// whether steps are counted.
 ///
-/// Errors: want of memory alone, which more results than `memo` may keep are too; nothing is promised
-/// of `kept`.
+/// Errors: out of memory, or the limit of `memo` is reached; then nothing is promised of `kept`.
 pub fn bound_words(
     table: &Table,
     memo: &mut Memo,
@@ -97,12 +96,12 @@ pub fn bound_words(
     })
 }
 
-/// The least upper bound of the expression that is found by the hypotheses and by its operators,
-/// with a proof: what the definition gives of the formulas and the expression that the ids stand
-/// for. `kept` has what was found under the same hypotheses.
+/// Returns the least upper bound of the expression that is found by the hypotheses and by its
+/// operators, with a proof: what the definition gives for the formulas and the expression that the
+/// ids stand for. `kept` has the bounds cached under these hypotheses.
 ///
-/// Errors: want of memory alone, which more results than `memo` may keep are too; each id keeps its
-/// tree, and nothing is promised of `kept`.
+/// Errors: out of memory, or the limit of `memo` is reached; each id keeps its tree, and nothing is
+/// promised of `kept`.
 pub fn upper_bound(
     table: &mut Table,
     memo: &mut Memo,
@@ -126,13 +125,13 @@ pub fn upper_bound(
     best_bound(table, memo, kept, hyps, Side::Upper, e)
 }
 
-/// The greatest lower bound of the expression that is found by the hypotheses, and where steps are
-/// counted (`counted`) by what a difference is taken from, with a proof: what the definition gives of
-/// the formulas and the expression that the ids stand for. `kept` has what was found under the same
-/// hypotheses.
+/// Returns the greatest lower bound of the expression that is found by the hypotheses and, if steps
+/// are counted (`counted`), by the minuend of a difference, with a proof: what the definition gives
+/// for the formulas and the expression that the ids stand for. `kept` has the bounds cached under
+/// these hypotheses.
 ///
-/// Errors: want of memory alone, which more results than `memo` may keep are too; each id keeps its
-/// tree, and nothing is promised of `kept`.
+/// Errors: out of memory, or the limit of `memo` is reached; each id keeps its tree, and nothing is
+/// promised of `kept`.
 pub fn lower_bound(
     table: &mut Table,
     memo: &mut Memo,

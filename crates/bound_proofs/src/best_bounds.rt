@@ -1,7 +1,7 @@
-//! The best bound of an expression from a side: chosen first, by words alone, and made where the
-//! proof is asked for. From below it is the one where steps are counted.
+//! The best bound of an expression from a side: chosen first, by words alone, and built when its
+//! proof is asked for. From below it is the lower bound for counted steps.
 //!
-//! Errors: want of memory alone; each id keeps its tree.
+//! Errors: out of memory, or the limit of the memo is reached; each id keeps its tree.
 
 ghost use Rattle.std.specs.Prelude.{◌≡◌, ◌≤◌, ◌+◌, true, IfOk, OnOk, length};
 ghost use Rattle.term_table.specs.Table.{IsKnown, tree_at, Extends};
@@ -31,7 +31,7 @@ use hereditary_subst::{Exhausted, Memo};
 use lf_rules::numbers::{AND_LE, BIC_LE};
 use term_table::{Id, Table};
 
-/// What is chosen as the bound of the expression, which is kept.
+/// The choice of the expression's bound, which is cached.
 #[cycle(choosing)]
 pub(crate) fn choice_of(
     table: &Table,
@@ -60,7 +60,7 @@ pub(crate) fn choice_of(
     Ok(choice)
 }
 
-/// The same, which isn't kept yet.
+/// The choice for an expression that isn't cached yet.
 #[cycle(choosing)]
 fn choice_anew(
     table: &Table,
@@ -89,7 +89,7 @@ fn choice_anew(
     }
 }
 
-/// What is chosen as the upper bound, by those of an operator's parts.
+/// The choice of the upper bound, by the upper bounds of an operator's parts.
 #[cycle(choosing)]
 fn upper_choice(
     table: &Table,
@@ -119,7 +119,7 @@ fn upper_choice(
     }
 }
 
-/// What is chosen as the lower bound, by that of what a difference is taken from.
+/// The choice of the lower bound, by the lower bound of a difference's minuend.
 #[cycle(choosing)]
 fn lower_choice(
     table: &Table,
@@ -217,7 +217,7 @@ pub(crate) fn made(
     }
 }
 
-/// The bound of an operator by those of its parts that it needs, from the same side.
+/// The bound of an operator by the bounds of those operands that it needs, from one side.
 #[cycle(bounding)]
 #[tactic(auto, using(crate::proofs::BoundRows::rows))]
 fn made_by_parts(

@@ -1,6 +1,6 @@
 //! Bounds of expressions, and the proofs that they are made of.
 //!
-//! Errors: want of memory alone; each id keeps its tree.
+//! Errors: out of memory, or the limit of the memo is reached; each id keeps its tree.
 
 ghost use Rattle.std.specs.Prelude.{◌≡◌, ◌≤◌, IfOk, OnOk};
 ghost use Rattle.term_table.specs.Table.{TableView, IsKnown, tree_at, Extends};
@@ -23,9 +23,9 @@ use word_ops::{Op, Rel, apply};
 /// A word and the id of a proof that it is a bound.
 #[derive(Clone, Copy)]
 pub struct Bound {
-    /// The word.
+    /// The bound.
     pub value: u64,
-    /// The proof.
+    /// The proof that the word is a bound.
     pub proof: Id,
 }
 
@@ -38,8 +38,8 @@ pub(crate) enum Side {
     Lower,
 }
 
-/// That the first is at most the second, where one is the expression and the other a word, which is
-/// the variable 0 under a binder.
+/// The formula that the first is at most the second, one being the expression and the other a word,
+/// which is the variable 0 under a binder.
 #[tactic(auto, using(hereditary_subst::proofs::Rows::rows))]
 pub(crate) fn placed(table: &mut Table, memo: &mut Memo, side: Side, e: Id) -> Result<Id, Exhausted>
     requires e { IsKnown table.old e }
@@ -77,7 +77,7 @@ fn oper_of_words(table: &mut Table, op: Op, v: u64, w: u64) -> Result<Id, AllocE
     oper(table, op, left, right)
 }
 
-/// That a word is at most the variable 0 under a binder.
+/// The formula that a word is at most the variable 0 under a binder.
 fn word_below_place(table: &mut Table, w: u64) -> Result<Id, AllocError>
     ensures id { IfOk result (IsIdOf table.new (form_encoding (FRel Ule (ELit w) (EVar 0)))) }
     ensures extends { Extends table.old table.new }
@@ -119,7 +119,7 @@ pub(crate) fn folded(
     Ok(Bound { value, proof })
 }
 
-/// The proof that a word is at most what an operator gives at two words, where it is.
+/// The proof that a word is at most what an operator gives at two words, if it is.
 #[tactic(auto, using(hereditary_subst::proofs::Rows::rows))]
 pub(crate) fn fit_proof(
     table: &mut Table,

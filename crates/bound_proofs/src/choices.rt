@@ -1,4 +1,4 @@
-//! Which candidate is the best bound: no term is made, and the table stays as it is.
+//! Chooses which candidate is the best bound: builds no term and leaves the table unchanged.
 
 ghost use Rattle.std.specs.Prelude.{◌≡◌, ◌<◌, ◌+◌, ◌^◌, ◌++◌, true, [], ◌∷◌, if◌then◌else◌, nat_lt, nat_le, suc, drop, length};
 ghost use Rattle.term_table.specs.Table.{IsKnown, tree_at};
@@ -21,7 +21,7 @@ use formula_ids::{Hypothesis, literal};
 use term_table::{Id, Table};
 use word_ops::{Op, apply};
 
-/// What a bound holds by.
+/// The reason for a bound.
 #[derive(Clone, Copy)]
 pub(crate) enum By {
     /// No word is more than the greatest, and none is less than 0.
@@ -117,8 +117,8 @@ fn with_hyp(
     }
 }
 
-/// The best of what the hypotheses say of the expression, and the last. They are taken from the last
-/// to the first, so that of equal bounds the first hypothesis' stays.
+/// The best of what the hypotheses say of the expression, and the last. They are taken from the
+/// last to the first, so that of equal bounds the first hypothesis' stays.
 fn by_hyps(table: &Table, side: Side, hyps: &[Hypothesis], e: Id, last: Choice) -> Choice
     requires hyps { AreKnownHyps table.now hyps.now }
     requires e { IsKnown table.now e }
@@ -149,7 +149,7 @@ pub(crate) fn choice_alone(table: &Table, side: Side, hyps: &[Hypothesis], e: Id
     }
 }
 
-/// This candidate where `fits`, unless the last is strictly better.
+/// This candidate if `fits`, unless the last is strictly better.
 fn or_last_if(side: Side, fits: bool, by: By, value: u64, last: Choice) -> Choice
     ensures { (Γ : Hyps) (x : Exp) (w : WordBound) → value ≡ (chosen side Γ x by).value
         → IsChoice side Γ x w last → IsChoice side Γ x
@@ -169,7 +169,7 @@ fn fits_sum(v: u64, w: u64) -> bool
     v.checked_add(w).is_some()
 }
 
-/// Whether no bit is lost where the word is shifted to the left.
+/// Whether no bit is lost if the word is shifted to the left.
 fn fits_shift(v: u64, count: u64) -> bool
     ensures { result ≡ nat_le v (word_of Srl max_word count) }
 {
@@ -198,7 +198,8 @@ fn by_operator(op: Op, last: Choice) -> Choice
     }
 }
 
-/// The least of what the operator's parts, whose upper bounds have the words `v` and `w`, say of it.
+/// The least of what the operator's parts, whose upper bounds have the words `v` and `w`, say of
+/// it.
 fn by_parts(table: &Table, op: Op, b: Id, v: u64, w: u64) -> Choice
     requires { IsKnown table.now b }
     ensures { (Γ : Hyps) (x y : Exp) → tree_at table.now b ≡ exp_encoding y
@@ -239,8 +240,8 @@ fn by_parts(table: &Table, op: Op, b: Id, v: u64, w: u64) -> Choice
     }
 }
 
-/// The least upper bound of an operator at two expressions, whose upper bounds have the words `v` and
-/// `w`.
+/// The least upper bound of an operator at two expressions, whose upper bounds have the words `v`
+/// and `w`.
 pub(crate) fn choice_of_parts(
     table: &Table,
     hyps: &[Hypothesis],
@@ -261,8 +262,8 @@ pub(crate) fn choice_of_parts(
     by_hyps(table, Side::Upper, hyps, e, best)
 }
 
-/// What a difference from the word `w` is at least, where its left side's lower bound has the word
-/// `v`; else the limit.
+/// The lower bound of a difference with the subtrahend `w`, if the minuend's lower bound is the
+/// word `v`; else the limit.
 fn by_difference(w: u64, v: u64) -> Choice
     ensures { (Γ : Hyps) (x : Exp) → v ≡ (lower_bound true Γ x).value
         → IsChoice Lower Γ (EOp Sub x (ELit w)) (greatest_bound

@@ -1,5 +1,5 @@
-//! Bounds that are kept, so that an expression that stands in many places is gone through once, and
-//! the proof of its bound made once.
+//! Cached bounds, so that a shared expression is visited once, and the proof of its bound built
+//! once.
 
 ghost use Rattle.std.specs.Prelude.{◌≡◌, ◌+◌, IfOk, IfSome, List, OnOk};
 ghost use Rattle.term_table.specs.Table.{TableView, IsKnown, tree_at};
@@ -27,7 +27,7 @@ struct Subject {
     exp: u64,
 }
 
-/// What was chosen as a bound, and the proof's id where it was made.
+/// The choice of a bound, and the proof's id if it was built.
 #[derive(Clone, Copy)]
 struct Row {
     choice: Choice,
@@ -48,15 +48,15 @@ impl Question for Subject {
     ghost lasts = { λ l t u s r e k h. row-lasts t u l s r k e h };
 }
 
-/// Bounds that were found, of expressions under one list of hypotheses: upper ones, and, where steps
-/// are counted, lower ones. They count in the limit of the `Memo` that keeps the shifts.
+/// Cached bounds of expressions under one list of hypotheses: upper ones, and, if steps are
+/// counted, lower ones. They count in the limit of the `Memo` that caches the shifts.
 #[derive(Drop)]
 pub struct KeptBounds {
     rows: Kept<Subject>,
 }
 
 impl KeptBounds {
-    /// None yet, which takes no memory, for any hypotheses.
+    /// Returns an empty cache, which allocates nothing yet, for any hypotheses.
     pub fn new(alloc: Global) -> KeptBounds
         ensures { (t : TableView) (hyps : List H) → AreBounds t hyps result }
     {
@@ -65,7 +65,7 @@ impl KeptBounds {
         }
     }
 
-    /// The choice that is kept of the expression.
+    /// The cached choice for the expression.
     pub(crate) fn choice(
         &self,
         table: &Table,
@@ -85,7 +85,7 @@ impl KeptBounds {
         }
     }
 
-    /// The proof that is kept of the expression.
+    /// The cached proof for the expression.
     pub(crate) fn proof(&self, table: &Table, hyps: &[Hypothesis], side: Side, e: Id) -> Option<Id>
         requires { AreBounds table.now hyps.now self.now }
         ensures known { IfSome result (IsKnown table.now) }
@@ -100,8 +100,9 @@ impl KeptBounds {
         }
     }
 
-    /// Keeps what was chosen of the expression, and the proof where it was made. Fails past the limit
-    /// of `memo`, and where memory does.
+    /// Caches the choice for the expression, and the proof if it was built.
+    ///
+    /// Errors: the limit of `memo` is reached, or out of memory.
     pub(crate) fn keep(
         &mut self,
         memo: &mut Memo,

@@ -1,12 +1,13 @@
-//! Upper and lower bounds of expressions, with their proofs, on ids of a table.
+//! Finds upper and lower bounds of expressions, with their proofs.
 //!
-//! Which bound is the best is chosen by words alone (`Choice`: by a hypothesis, by an operator's parts,
-//! by being a word, by the limit of words); its proof is made where it is asked for. What was chosen is
-//! kept by the expression's id, and the proof beside it, so a shared expression has each found once.
+//! The best bound is chosen by words alone (`Choice`: by a hypothesis, by an operator's parts, as
+//! the expression is a word, by the limit of words); its proof is built only on demand. Choices are
+//! cached by the expression's id, and so are the proofs, so each is found once for a shared
+//! expression.
 //!
-//! The layer above uses that `upper_bound` and `lower_bound` answer what the class's definitions
-//! give (`prover_class`, `specs/Bounds`): the value, and the proof as a term, for which the ids stand; and
-//! `bound_words` the values alone. Source: Necula, Proof-Carrying Code, POPL 1997 (the rules of
+//! The layer above uses that `upper_bound` and `lower_bound` return what the definitions of
+//! `prover_class` give (`specs/Bounds`): the value, and the id of the proof term. `bound_words`
+//! returns the values alone. Source: Necula, Proof-Carrying Code, POPL 1997 (the rules of
 //! arithmetic).
 #![tactic(auto)]
 

@@ -1,6 +1,6 @@
-//! The parts of an operator, and what they say of it from above, bounded themselves.
+//! The operands of an operator, themselves bounded, and the upper bounds that they give of it.
 //!
-//! Errors: want of memory alone; each id keeps its tree.
+//! Errors: out of memory, or the limit of the memo is reached; each id keeps its tree.
 
 ghost use Rattle.std.specs.Prelude.{◌≡◌, ◌<◌, ◌≤◌, IfOk, IfSome, OnOk};
 ghost use Rattle.term_table.specs.Table.{IsKnown, tree_at, Extends};
@@ -40,10 +40,10 @@ pub(crate) struct Ceiling {
     pub(crate) rule: u32,
 }
 
-/// A difference from a word.
+/// A difference whose subtrahend is a word.
 #[derive(Clone, Copy)]
 pub(crate) struct Difference {
-    /// What it is taken from.
+    /// The minuend.
     pub(crate) left: Id,
     pub(crate) word: u64,
 }
@@ -59,18 +59,18 @@ pub(crate) enum How {
     Cleared,
     /// A shift of its left side to the right by so many bits.
     ShiftRight(u64),
-    /// A shift of its left side to the left by so many bits, where none is lost.
+    /// A shift of its left operand to the left by so many bits, if no bit is lost.
     ShiftLeft(u64),
-    /// A sum of both, where it doesn't wrap.
+    /// A sum of both operands, if it doesn't wrap.
     Sum,
     /// An operator that never passes a word.
     Capped(Ceiling),
-    /// A difference of its left side from this word, bounded from below, where it doesn't wrap.
+    /// Its left operand minus this word, bounded from below, if it doesn't wrap.
     Difference(u64),
 }
 
-/// The operator and the sides of the expression that `e` encodes; none where it is no operator. Of an
-/// id that encodes none it says nothing, but that the sides' ids are lower.
+/// The operator and the sides of the expression that `e` encodes; None if it is no operator. If `e`
+/// encodes no expression, the result says only that the sides' ids are lower.
 pub(crate) fn parts_of(table: &Table, e: Id) -> Option<Parts>
     requires { IsKnown table.now e }
     ensures is { (x : Exp) → tree_at table.now e ≡ exp_encoding x → AreParts table.now x result }
@@ -82,8 +82,8 @@ pub(crate) fn parts_of(table: &Table, e: Id) -> Option<Parts>
     }
 }
 
-/// The difference that `e` encodes, where what is taken away is a word; else none. Of an id that
-/// encodes none it says nothing, but that what it is taken from has a lower id.
+/// The difference that `e` encodes, if the subtrahend is a word; else None. If `e` encodes no
+/// expression, the result says only that the minuend has a lower id.
 pub(crate) fn difference_of(table: &Table, e: Id) -> Option<Difference>
     requires { IsKnown table.now e }
     ensures is { (x : Exp) → tree_at table.now e ≡ exp_encoding x
@@ -158,7 +158,7 @@ fn capped_at(word: u64, rule: u32) -> Option<Ceiling>
     Some(Ceiling { word, rule })
 }
 
-/// The word that an operator never passes; none where it may be any word.
+/// The word that an operator never passes; None if it may be any word.
 pub(crate) fn ceiling_of(op: Op) -> Option<Ceiling>
     ensures { result ≡ ceiling_of op }
 {
@@ -293,7 +293,7 @@ pub(crate) fn by_right_shift(
     folded(table, memo, Side::Upper, e, Op::Srl, v.value, count, proof)
 }
 
-/// A left shift by a word, where no bit is lost.
+/// A left shift by a word, if no bit is lost.
 #[tactic(auto, using(hereditary_subst::proofs::Rows::rows))]
 pub(crate) fn by_left_shift(
     table: &mut Table,
@@ -322,7 +322,7 @@ pub(crate) fn by_left_shift(
     folded(table, memo, Side::Upper, e, Op::Sll, v.value, count, proof)
 }
 
-/// A sum, where it doesn't wrap.
+/// A sum, if it doesn't wrap.
 #[tactic(auto, using(hereditary_subst::proofs::Rows::rows))]
 pub(crate) fn by_sum(
     table: &mut Table,
@@ -364,7 +364,7 @@ pub(crate) fn by_sum(
     )
 }
 
-/// A difference of `a` from the word `w`, where `a` is at least `v`, and `v` at least `w`.
+/// `a` minus the word `w`, if `a` is at least `v`, and `v` at least `w`.
 #[tactic(auto, using(hereditary_subst::proofs::Rows::rows))]
 pub(crate) fn by_difference(
     table: &mut Table,

@@ -1,4 +1,4 @@
-//! What a hypothesis says of an expression that it relates to a word.
+//! The bound that a hypothesis gives of an expression that it relates to a word.
 
 ghost use Rattle.std.specs.Prelude.{◌≡◌, ◌≤◌, IfOk, drop, OnOk};
 ghost use Rattle.term_table.specs.Tree.{Tree};
@@ -28,7 +28,7 @@ use word_ops::{Op, Rel, apply};
 /// The kinds of relations that bound an expression by a word.
 #[derive(Clone, Copy)]
 pub(crate) enum Kind {
-    /// Of expression and word the one is at most the other.
+    /// One of expression and word is at most the other.
     AtMost,
     /// The one is less than the other.
     Less,
@@ -43,7 +43,7 @@ pub(crate) struct Related {
     pub(crate) value: u64,
 }
 
-/// The relation of this kind to the word that `b` is, where `a` is the expression `e`.
+/// The relation of this kind to the word that `b` is, if `a` is the expression `e`.
 fn to_word(table: &Table, kind: Kind, a: Id, b: Id, e: Id) -> Option<Related>
     requires a { IsKnown table.now a }
     requires b { IsKnown table.now b }
@@ -61,7 +61,7 @@ fn to_word(table: &Table, kind: Kind, a: Id, b: Id, e: Id) -> Option<Related>
     }
 }
 
-/// What is less than 0 bounds nothing.
+/// The relation, unless it says less than 0, which bounds nothing.
 fn unless_zero(related: Option<Related>) -> Option<Related>
     ensures { (x y z : Exp) → IsToWord Less x y z related
         → IsRelated Upper x (FRel Ult y z) result }
@@ -108,8 +108,8 @@ fn below(table: &Table, rel: Rel, a: Id, b: Id, e: Id) -> Option<Related>
     }
 }
 
-/// How the hypothesis relates the expression to a word that bounds it from this side; none where it
-/// says nothing of it.
+/// How the hypothesis relates the expression to a word that bounds it from this side; None if it
+/// says nothing about the expression.
 pub(crate) fn relation_of(table: &Table, side: Side, form: Id, e: Id) -> Option<Related>
     requires form { IsKnown table.now form }
     requires e { IsKnown table.now e }
@@ -139,7 +139,7 @@ pub(crate) fn bound_word(side: Side, kind: Kind, value: u64) -> u64
     }
 }
 
-/// What is less than a word is at most the word before.
+/// The bound of an expression that is less than a word: at most the word minus 1.
 #[tactic(auto, using(hereditary_subst::proofs::Rows::rows))]
 fn by_less(
     table: &mut Table,
@@ -165,7 +165,7 @@ fn by_less(
     folded(table, memo, Side::Upper, e, Op::Sub, w, 1, before)
 }
 
-/// What is more than a word is at least it.
+/// The bound of an expression that is more than a word: at least the word.
 fn by_more(table: &mut Table, e: Id, w: u64, word: Id, proof: Id) -> Result<Bound, Exhausted>
     requires e { IsKnown table.old e }
     requires word { IsKnown table.old word }
@@ -183,7 +183,7 @@ fn by_more(table: &mut Table, e: Id, w: u64, word: Id, proof: Id) -> Result<Boun
     })
 }
 
-/// What equals a word is bounded by it.
+/// The bound of an expression that equals a word: the word.
 #[tactic(auto, using(hereditary_subst::proofs::Rows::rows))]
 fn by_equal(
     table: &mut Table,
@@ -250,7 +250,7 @@ fn by_relation(
     }
 }
 
-/// What the hypothesis at this place says of the expression; the limit where it says nothing.
+/// The bound that the hypothesis at this index gives of the expression; the limit if it gives none.
 #[tactic(auto, using(hereditary_subst::proofs::Rows::rows))]
 pub(crate) fn by_hypothesis(
     table: &mut Table,

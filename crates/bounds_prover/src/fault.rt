@@ -6,10 +6,11 @@ ghost use Rattle.bounds_prover.specs.Names.{measure_name};
 use pcc_gate::Refusal;
 use thiserror::Error;
 
-/// What of a proof, or of the container that has it, has a limit; in this order they are tried.
+/// A measure of a proof, or of the container that has it, that has a limit; they are tested in this
+/// order.
 #[derive(Clone, Copy, Debug, PartialEq, Eq)]
 pub enum Measure {
-    /// The proof's weight with that of the lemmas' proofs.
+    /// The total weight of the proof and the lemmas' proofs.
     Weight,
     /// The proof's height.
     Height,
@@ -23,7 +24,7 @@ pub enum Measure {
 pub const MAX_KIND: usize = 7;
 
 impl Measure {
-    /// The measure's name, of at most `MAX_KIND` bytes, as the line of the fault shows it.
+    /// Returns the measure's name, of at most `MAX_KIND` bytes, as a printed line shows it.
     pub fn name(self) -> &'static str
         ensures exact { result.now ≡ measure_name self }
         ensures short { length result.now ≤ MAX_KIND }
@@ -40,20 +41,23 @@ impl Measure {
 /// Why a container gets no proof.
 #[derive(Clone, Copy, Debug, PartialEq, Eq, Error)]
 pub enum ProveFault {
-    /// A clause before the proof fails, or, of the lemmas alone, 10 or 14: the first.
+    /// An acceptance check before the proof fails, or, for the lemmas alone, 10 or 14: the first
+    /// that fails.
     #[error("refused: {0}")]
     Refused(Refusal),
-    /// The first part of the condition that isn't easy: 0 is the entry's, k + 1 that of invariant k.
+    /// The first part of the condition that isn't easy: 0 is the entry's part, k + 1 that of
+    /// invariant k.
     #[error("part {0} of the condition isn't easy")]
     NotEasy(u32),
     /// The proof, or the container that has it, is past a limit: the first measure that is, and its
-    /// number. A weight or a height past 4,294,967,295 is shown as that.
+    /// value. A weight or a height past 4,294,967,295 is shown as that.
     #[error("too big: {0:?} {1}")]
     TooBig(Measure, u64),
-    /// There was no memory; that says nothing of the container.
+    /// The call ran out of memory; that says nothing about the container.
     #[error("out of memory")]
     Memory,
-    /// More results would have been kept than the limit allows; that says nothing of the container.
-    #[error("too many results")]
+    /// The call would have cached more results than the limit allows; that says nothing about the
+    /// container.
+    #[error("the search would cache too many results")]
     Results,
 }

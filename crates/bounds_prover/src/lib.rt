@@ -1,10 +1,10 @@
-//! Containers with a proof of their condition.
+//! The command `prove` as a library: a container with a proof that its checker accepts.
 //!
-//! The layer above uses that `prove` answers the container in the bytes with a proof of its
-//! verification condition in place of its own, where the class of easy conditions gives one
-//! (`condition_prover`, `prover_class`), or else the first reason why not (`specs/Proving`); and that
-//! the gate accepts it (`specs/ProvedLaws`). Source: Necula, Proof-Carrying Code, POPL 1997 (the
-//! rules); the search is this project's own.
+//! The layer above uses that `prove` returns the container in the bytes with a proof of its
+//! verification condition in place of its own, if the prover finds one (`condition_prover`,
+//! `prover_class`). Else it returns the first reason why not (`specs/Proving`). The container
+//! checker accepts the result (`specs/ProvedLaws`). Source: Necula, Proof-Carrying Code, POPL 1997
+//! (the rules); the search is this project's own.
 #![tactic(auto)]
 
 mod fault;

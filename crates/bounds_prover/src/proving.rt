@@ -1,4 +1,4 @@
-//! Containers with a proof of their condition.
+//! Builds containers with a proof of their condition.
 
 ghost use Rattle.std.specs.Prelude.{◌≡◌, ◌≤◌, map, length, IfOk};
 ghost use Rattle.term_table.specs.Table.{IsKnown, tree_at};
@@ -59,7 +59,7 @@ fn excess(alloc: Global, view: &View<'_>, proof: Id) -> Result<Option<ProveFault
     Ok(None)
 }
 
-/// The encoding of what the view shows, where nothing is past its limit.
+/// The encoding of what the view shows, if nothing is past its limit.
 fn written(alloc: Global, view: &View<'_>, proof: Id) -> Result<Vec<u8>, ProveFault>
     requires roots { AreKnown view.now.table.now view.now.invs.now view.now.proof }
     requires lemmas { LemmasKnown view.now.table.now view.now.lemmas.now }
@@ -81,7 +81,8 @@ fn written(alloc: Global, view: &View<'_>, proof: Id) -> Result<Vec<u8>, ProveFa
     }
 }
 
-/// What passed the clauses before the proof and those of its lemmas, with a proof.
+/// The container that passed the acceptance checks before the proof and those of its lemmas, with a
+/// proof.
 fn proved(
     alloc: Global,
     policy: &Policy,
@@ -131,7 +132,7 @@ fn proved(
     }
 }
 
-/// What `prove` answers.
+/// The result of `prove`.
 fn made(alloc: Global, policy: &Policy, bytes: &[u8]) -> Result<Vec<u8>, ProveFault>
     ensures { IsProveAnswer policy.now bytes.now result }
 {
@@ -144,18 +145,19 @@ fn made(alloc: Global, policy: &Policy, bytes: &[u8]) -> Result<Vec<u8>, ProveFa
 }
 
 /// Encodes the container in `bytes` with a proof of its verification condition under `policy` in
-/// place of its own proof, where the class of easy conditions gives one (`prover_class`), in the
-/// version, with the bound and the lemmas that it has, of which the proof cites none. What is
-/// answered is accepted by the gate.
+/// place of its own proof, if the prover finds one (`prover_class`). The result has the container's
+/// version, step bound and lemmas; the proof cites no lemma. The container checker accepts the
+/// result.
 ///
-/// Errors, in their order: `Refused` names the first clause that fails of those before the proof
-/// and, of the lemmas alone, of 10 and 14 (`pcc_gate::front_with_lemmas`); `NotEasy` the first part
-/// of the condition that has no proof in the class: 0 is the entry's, k + 1 that of invariant k;
-/// `TooBig` the first measure that is past its limit: the proof's weight with the lemmas' proofs
-/// (`pcc_gate::MAX_WEIGHT`) and its height (`vcgen::MAX_HEIGHT`), the container's entries and bytes
-/// (`proof_container::MAX_ENTRIES`, `MAX_BYTES`), with its number. `Memory` and `Results` say
-/// nothing of `bytes`: there was no memory, or the results that the search keeps and the terms that
-/// it makes were more than `condition_prover::MOST_SEARCHED`.
+/// Errors, in their order: `Refused` names the first check that fails of those before the proof
+/// and, for the lemmas alone, of 10 and 14 (`pcc_gate::front_with_lemmas`). `NotEasy` names the
+/// first part of the condition that `prover_class` gives no proof: 0 is the entry's part, k + 1
+/// that of invariant k. `TooBig` names the first measure that is past its limit, with its value:
+/// the weight of the proof with the lemmas' proofs (`pcc_gate::MAX_WEIGHT`), the proof's height
+/// (`vcgen::MAX_HEIGHT`), the container's entries and bytes (`proof_container::MAX_ENTRIES`,
+/// `MAX_BYTES`). `Memory` and `Results` say nothing about `bytes`: the call ran out of memory, or
+/// the results that the search caches and the terms that it builds were more than
+/// `condition_prover::MOST_SEARCHED`.
 pub fn prove(alloc: Global, policy: &Policy, bytes: &[u8]) -> Result<Vec<u8>, ProveFault>
     ensures exact { IsProveAnswer policy.now bytes.now result }
     ensures accepted { IfOk result (λ out. IsAccepted policy.now out.items) }

@@ -1,10 +1,10 @@
-//! What holds of the containers that are made, with nothing to run.
+//! Theorems about the containers that `prove` builds; their functions run nothing.
 
 ghost use Rattle.bounds_prover.specs.ProvedLaws.{ProvedAccepted};
 
 use prover_class::class_laws;
 
-/// What `prove` makes of bytes is accepted by the gate.
+/// States that the container checker accepts whatever `prove` makes of bytes.
 pub fn prove_laws()
     ensures accepted { ProvedAccepted }
 {

@@ -1,8 +1,7 @@
-//! The walk over code against a formula that is given: whether that is what the walk would make.
+//! The walk over code against a given formula: whether the walk would build that formula.
 //!
-//! It goes as the walk of `vcgen` that makes terms does, with the part of the formula that has to
-//! stand there in its hand, and ends at the first difference. No invariant is written out with its
-//! terms.
+//! It proceeds as the walk of `vcgen` that builds terms does. It holds the subformula that has to
+//! be at the current place, and ends at the first difference. It substitutes into no invariant.
 
 ghost use Rattle.std.specs.Prelude.{◌≡◌, ◌↔◌, ◌<◌, IfOk, IsTrue, None, length, slice_get};
 ghost use Rattle.word_ops.specs.declared.Rel.TheVariants.{Ult};
@@ -58,7 +57,7 @@ pub(crate) fn is_walk(
     }
 }
 
-/// The same with the terms of `after`.
+/// Whether `goal` is the term of the walk with the terms of `after`.
 #[cycle(comparing)]
 fn is_walk_with(
     table: &mut Table,
@@ -89,7 +88,7 @@ fn is_walk_with(
     Ok(equal)
 }
 
-/// Whether `goal` is that where the formula of `side` holds, the walk from its index does.
+/// Whether `goal` says that the walk from the index of `side` holds if its formula does.
 #[cycle(comparing)]
 fn is_side(
     table: &mut Table,
@@ -206,8 +205,8 @@ fn is_behind(
     )
 }
 
-/// Whether `goal` is the term of the walk from the instruction at `index`, whether that is annotated
-/// or not; its own step isn't counted.
+/// Whether `goal` is the term of the walk from the instruction at `index`, whether that is
+/// annotated or not; its own step isn't counted.
 #[cycle(comparing)]
 fn is_insn(
     table: &mut Table,
@@ -255,7 +254,7 @@ fn is_insn(
     }
 }
 
-/// The same with the terms of `after`.
+/// Whether `goal` is the term of the walk over the instruction with the terms of `after`.
 #[cycle(comparing)]
 fn is_insn_with(
     table: &mut Table,
@@ -289,7 +288,8 @@ fn is_insn_with(
     Ok(equal)
 }
 
-/// The same where steps are counted: that one is left stands first, and the rest with one less.
+/// Whether `goal` is the term of the walk over the instruction if steps are counted: first that a
+/// step is left, then the rest with one less.
 #[cycle(comparing)]
 fn is_counted(
     table: &mut Table,
@@ -329,8 +329,8 @@ fn is_counted(
     )
 }
 
-/// Whether `goal` is the term of the walk from the instruction at `index`, whether that is annotated
-/// or not.
+/// Whether `goal` is the term of the walk from the instruction at `index`, whether that is
+/// annotated or not.
 #[cycle(comparing)]
 pub(crate) fn is_walk_from(
     table: &mut Table,
@@ -362,8 +362,8 @@ pub(crate) fn is_walk_from(
     }
 }
 
-/// Whether `goal` is the term of the walk from index 0, where all steps are left, if they are
-/// counted; `start` is each of the machine's variables for itself.
+/// Whether `goal` is the term of the walk from index 0, with all steps left, if they are counted;
+/// `start` has each of the machine's variables for itself.
 pub(crate) fn is_walk_entry(
     table: &mut Table,
     shifts: &mut Memo,

@@ -1,7 +1,8 @@
-//! What comparisons keep: results of the terms that a walk has now, and of terms of a walk before.
+//! Cached results of comparisons: results for the terms that a walk has now, and for terms of an
+//! earlier walk.
 //!
-//! The parts of many invariants make the same terms again, as where each has one instruction; then
-//! what is alike in the invariants is gone through once.
+//! The obligations of many cut points make equal terms again, for example if each has one
+//! instruction; then what is alike in the invariants is compared once.
 
 ghost use Rattle.std.specs.Prelude.{◌≡◌, ◌↔◌, ◌<◌, ◌^◌, IfOk, IsTrue};
 ghost use Rattle.term_table.specs.Table.{IsKnown, tree_at, Extends};
@@ -47,8 +48,8 @@ impl Comparisons {
         }
     }
 
-    /// What is kept for a walk with the terms of `after`: the results of before, where these are
-    /// theirs. They go along with that walk.
+    /// The cache for a walk with the terms of `after`: the earlier results, if these are of those
+    /// terms. The walk takes them along.
     pub(crate) fn inner(&mut self, table: &Table, symbols: &Symbols, after: &Symbols) -> Comparisons
         requires kept { AreComparisons table.now (ids_of symbols.now) self.old }
         requires after { AreMachineTerms table.now (ids_of after.now) }
@@ -77,7 +78,7 @@ impl Comparisons {
         }
     }
 
-    /// Keeps what a walk with the terms of `after` kept.
+    /// Takes over what a walk with the terms of `after` cached.
     pub(crate) fn resume(
         &mut self,
         table: &Table,
@@ -103,8 +104,8 @@ impl Comparisons {
     }
 }
 
-/// Whether what is put for the machine's variables in a term is the term itself, where the goal is
-/// this; else nothing is said.
+/// Whether the substitution leaves a term unchanged, if the goal is this term; else nothing is
+/// said.
 fn is_left_alone(
     table: &Table,
     shifts: &mut Memo,

@@ -1,4 +1,4 @@
-//! Formulas taken apart: connectives, and quantifiers over all of the machine.
+//! Takes formulas apart: connectives, and quantifiers over the whole machine state.
 
 ghost use Rattle.std.specs.Prelude.{◌≡◌, ◌↔◌, IsTrue};
 ghost use Rattle.term_table.specs.Tree.{Con, Num, Lam};
@@ -29,7 +29,7 @@ fn is_constant(table: &Table, id: Id, constant: u32) -> bool
     }
 }
 
-/// The argument where the term is this numbered constant at one.
+/// The argument, if the term is this numbered constant applied to one.
 fn argument(table: &Table, constant: u32, id: Id) -> Option<Id>
     requires { IsKnown table.now id }
     ensures { IsResult table.now (λ a. tree_at table.now id ≡ app1 constant a) result }
@@ -43,7 +43,8 @@ fn argument(table: &Table, constant: u32, id: Id) -> Option<Id>
     None
 }
 
-/// The two arguments where the term is this numbered constant at two, as a connective at its sides.
+/// The two arguments, if the term is this numbered constant applied to two, as a connective to its
+/// sides.
 pub(crate) fn sides(table: &Table, constant: u32, id: Id) -> Option<Pair>
     requires { IsKnown table.now id }
     ensures { AreSides (app2 constant) table.now (tree_at table.now id) result }
@@ -60,7 +61,7 @@ pub(crate) fn sides(table: &Table, constant: u32, id: Id) -> Option<Pair>
     }
 }
 
-/// What stands under the quantifier where the term is one.
+/// The body of the quantifier, if the term is one.
 fn body(table: &Table, quantifier: u32, id: Id) -> Option<Id>
     requires { IsKnown table.now id }
     ensures { IsResult table.now (λ b. tree_at table.now id ≡ app1 quantifier (Lam b)) result }
@@ -74,7 +75,7 @@ fn body(table: &Table, quantifier: u32, id: Id) -> Option<Id>
     }
 }
 
-/// What stands under `count` quantifiers over words, where the term has as many.
+/// The body under `count` quantifiers over words, if the term has as many.
 fn under_words(table: &Table, count: u32, id: Id) -> Option<Id>
     requires { IsKnown table.now id }
     ensures { IsResult table.now (λ b. tree_at table.now id ≡ all_terms count b) result }
@@ -88,7 +89,7 @@ fn under_words(table: &Table, count: u32, id: Id) -> Option<Id>
     }
 }
 
-/// The sides where the formula is that one leads to the other, under `count` quantifiers over words.
+/// The sides, if the formula is an implication under `count` quantifiers over words.
 fn sides_under_words(table: &Table, count: u32, id: Id) -> Option<Pair>
     requires { IsKnown table.now id }
     ensures { AreSides (λ a b. all_terms count (imp_term a b)) table.now
@@ -100,7 +101,7 @@ fn sides_under_words(table: &Table, count: u32, id: Id) -> Option<Pair>
     }
 }
 
-/// The sides where the formula is that one leads to the other, for all memories and registers.
+/// The sides, if the formula is an implication for all memories and registers.
 fn machine_sides(table: &Table, id: Id) -> Option<Pair>
     requires { IsKnown table.now id }
     ensures { AreSides (λ a b. machine_term (imp_term a b)) table.now
@@ -112,7 +113,8 @@ fn machine_sides(table: &Table, id: Id) -> Option<Pair>
     }
 }
 
-/// The same where steps are counted, for all numbers of them.
+/// The sides, if the formula is an implication for all memories, registers and numbers of remaining
+/// steps.
 fn counted_sides(table: &Table, id: Id) -> Option<Pair>
     requires { IsKnown table.now id }
     ensures { AreSides (λ a b. all_term (machine_term (imp_term a b))) table.now
@@ -124,8 +126,8 @@ fn counted_sides(table: &Table, id: Id) -> Option<Pair>
     }
 }
 
-/// The sides where the formula is that one leads to the other, for all memories and registers, and
-/// where steps are counted for all numbers of them.
+/// The sides, if the formula is an implication for all memories and registers, and if steps are
+/// counted for all numbers of remaining steps.
 pub(crate) fn closed_sides(table: &Table, bound: Option<u32>, id: Id) -> Option<Pair>
     requires { IsKnown table.now id }
     ensures { AreSides (λ a b. closed_term bound (imp_term a b)) table.now

@@ -1,9 +1,10 @@
-//! Whether a formula is the verification condition of annotated code.
+//! Checks whether a formula is the verification condition of annotated code, without building the
+//! condition.
 //!
-//! The layers above use that `is_condition_with` tells the condition's encoding from other formulas
-//! without making it: the formula is taken apart as the walk of `vcgen` would put the condition
-//! together. What an instruction does to the terms is asked of `vcgen`, so there is one answer to
-//! that; what the condition is stands in its `specs/Conditions`.
+//! The layers above use that `is_condition_with` tells the condition's encoding from other
+//! formulas. It takes the formula apart in the order in which the walk of `vcgen` would put the
+//! condition together. `vcgen` computes the effect of each instruction on the terms for both
+//! crates; its `specs/Conditions` defines the condition.
 #![tactic(auto)]
 
 mod comparing;

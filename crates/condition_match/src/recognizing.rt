@@ -1,8 +1,8 @@
-//! Whether a formula is the verification condition.
+//! Checks whether a formula is the verification condition.
 //!
-//! The formula is taken apart as the condition would be put together, and compared part by part; the
-//! first difference ends it. No part is written out: what a stranger's code would make of a stranger's
-//! invariants costs no more than the formula has of it.
+//! The formula is taken apart as the condition would be put together, and compared part by part;
+//! the first difference ends the comparison. No part is built: whatever an untrusted producer's
+//! code would make of its invariants costs no more than the formula contains of it.
 
 ghost use Rattle.std.specs.Prelude.{◌≡◌, ◌↔◌, ℕ, ◌<◌, ◌≤◌, IfOk, IsTrue, length, drop, map, All};
 ghost use Rattle.alpha_cfg.specs.Cuts.{AreFlags};
@@ -66,7 +66,8 @@ fn is_entry(
     is_walk_entry(table, shifts, kept, program, start, parts.second)
 }
 
-/// Whether `goal` is the part of an annotated index: that its invariant leads to the walk from there.
+/// Whether `goal` is the part of the condition for a cut point: that its invariant implies the walk
+/// from there.
 #[tactic(auto, using(vcgen::proofs::Walking::memos))]
 fn is_inv_part(
     table: &mut Table,
@@ -181,8 +182,8 @@ fn is_condition_of(
     are_inv_parts(table, shifts, &mut kept, program, &start, 0, rest)
 }
 
-/// Whether `goal` is the encoding of the condition of code, its unfolded length being within its
-/// limit.
+/// Whether `goal` is the encoding of the condition of code. The total length of the paths between
+/// cut points has to be within its limit.
 #[tactic(auto, using(vcgen::proofs::Walking::memos))]
 fn is_encoded_condition(
     table: &mut Table,
@@ -219,15 +220,16 @@ fn is_encoded_condition(
     is_condition_of(table, shifts, &program, pre, goal)
 }
 
-/// Whether `formula` is what `vcgen::vc` gives of `cut`, `policy`, `invs` and `bound`, as the
-/// arguments stand there: the encoding of the verification condition of `cut` under `policy` and
-/// `bound`. The condition isn't written out, and the first difference ends the comparison.
+/// Returns whether `formula` is the encoding of the verification condition of `cut` under `policy`
+/// and `bound`: what `vcgen::vc` returns for `cut`, `policy`, `invs` and `bound`, which are as in
+/// that call. Doesn't build the condition; the first difference ends the comparison.
 ///
-/// `memo` has the results of earlier calls on the table; what is kept here counts in its limit.
+/// `memo` has the cached results of earlier calls on the table; results that are cached here count
+/// in its limit.
 ///
-/// Errors: `UnfoldLimit` names the unfolded length exactly where it exceeds `vcgen::MAX_UNFOLDED`,
-/// which is tested first; `Memory` says nothing of the condition, nor does `Results`, past the limit of
-/// `memo`. Each id keeps its tree.
+/// Errors: `UnfoldLimit` names the total length of the paths between cut points exactly if it
+/// exceeds `vcgen::MAX_UNFOLDED`, which is tested first. `Memory` says nothing about the condition,
+/// nor does `Results`, which comes past the limit of `memo`. Each id keeps its tree.
 pub fn is_condition_with(
     table: &mut Table,
     memo: &mut Memo,

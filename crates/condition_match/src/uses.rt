@@ -1,4 +1,4 @@
-//! Which of the machine's variables a term lacks, kept for all terms that are put.
+//! Which of the machine's variables a term lacks, cached for all terms of a substitution.
 
 ghost use Rattle.std.specs.Prelude.{◌≡◌, ◌<◌, ◌+◌, ◌^◌, true, IfOk, IfSome, IsTrue, OnOk};
 ghost use Rattle.term_table.specs.Tree.{App, Lam, Var};
@@ -17,8 +17,8 @@ use std::collections::BTreeMap;
 use term_table::{Id, Node, Table};
 use vcgen::Symbols;
 
-/// Where more variables don't stand for themselves, it isn't found out which of them a term lacks:
-/// each takes a walk through the term, as a comparison does.
+/// The number of variables with other terms above which it isn't found out which of them a term
+/// lacks: each takes a walk through the term, as a comparison does.
 const MOST_CHANGED: u32 = 4;
 
 /// A term and a variable outside it.
@@ -28,14 +28,14 @@ pub(crate) struct Place {
     variable: u64,
 }
 
-/// Whether terms lack variables: answers that count in the limit of a `Memo`.
+/// Cached answers whether terms lack variables. They count in the limit of a `Memo`.
 #[derive(Drop)]
 pub(crate) struct Uses {
     rows: BTreeMap<Place, bool>,
 }
 
 impl Uses {
-    /// No answers yet, which takes no memory.
+    /// Returns an empty cache, which allocates nothing yet.
     pub(crate) fn new(alloc: Global) -> Uses
         ensures { (t : TableView) → AreUses t result }
     {
@@ -44,7 +44,7 @@ impl Uses {
         }
     }
 
-    /// The answer that is kept.
+    /// The cached answer.
     fn find(&self, table: &Table, place: &Place) -> Option<bool>
         requires { AreUses table.now self.now }
         ensures { IfSome result (IsRow table.now place.now) }
@@ -53,7 +53,9 @@ impl Uses {
         self.rows.get(place).copied()
     }
 
-    /// Keeps an answer. Fails past the limit of `shifts`, and where memory does.
+    /// Caches an answer.
+    ///
+    /// Errors: the limit of `shifts` is reached, or out of memory.
     fn keep(
         &mut self,
         table: &Table,
@@ -75,7 +77,7 @@ impl Uses {
     }
 }
 
-/// Whether each variable of the term is bound, or among the n next outside: where the table knows.
+/// Whether the table knows that each variable of the term is bound or one of the `n` next outside.
 pub(crate) fn is_within(table: &Table, id: Id, n: u64) -> bool
     requires { IsKnown table.now id }
     ensures { IsTrue result → is_scoped n (tree_at table.now id) ≡ true }
@@ -84,7 +86,7 @@ pub(crate) fn is_within(table: &Table, id: Id, n: u64) -> bool
     reach < u32::MAX && u64::from(reach) <= n
 }
 
-/// Whether the term lacks the variable: where that is found.
+/// Whether it is found that the term lacks the variable.
 #[cycle(lacking)]
 pub(crate) fn lacks(
     table: &Table,
@@ -150,7 +152,7 @@ fn lacks_both(
     Ok(second)
 }
 
-/// The term that stands for the variable `k` of the context left, m, r0 to r30.
+/// The term for the variable `k` of the context left, m, r0 to r30.
 fn term_of(table: &Table, symbols: &Symbols, k: u32) -> Id
     requires ready { AreMachineTerms table.now (ids_of symbols.now) }
     requires low { k < 33 }
@@ -180,8 +182,8 @@ fn is_var(table: &Table, id: Id, k: u32) -> bool
     }
 }
 
-/// Whether the variable `k` of the context left, m, r0 to r30 stands for itself, or doesn't occur
-/// in the term: where that is found.
+/// Whether it is found that the variable `k` of the context left, m, r0 to r30 has itself as its
+/// term, or doesn't occur in the term.
 fn is_idle(
     table: &Table,
     shifts: &mut Memo,
@@ -209,7 +211,7 @@ fn is_idle(
     lacks(table, shifts, uses, id, u64::from(k))
 }
 
-/// How many of the variables of the context left, m, r0 to r30 from `k` on don't stand for
+/// How many of the variables of the context left, m, r0 to r30 from `k` on have other terms than
 /// themselves.
 fn changed_from(table: &Table, symbols: &Symbols, k: u32) -> u32
     requires { AreMachineTerms table.now (ids_of symbols.now) }
@@ -253,7 +255,7 @@ fn are_idle(
     are_idle(table, shifts, uses, symbols, id, k + 1)
 }
 
-/// Whether the term is the same with what is put for the machine's variables: where that is found.
+/// Whether it is found that the substitution for the machine's variables leaves the term unchanged.
 #[tactic(auto, using(crate::proofs::Lacking::stays_whole))]
 pub(crate) fn stays(
     table: &Table,

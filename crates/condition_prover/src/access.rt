@@ -1,7 +1,6 @@
-//! Goals that ask to load or to store, by hypotheses that give access.
+//! Proofs of the right to load or store, by hypotheses that give access.
 //!
-//! Errors: want of memory alone, which more results than the search may keep are too; each id keeps
-//! its tree.
+//! Errors: out of memory, or the search's limit is reached; each id keeps its tree.
 
 ghost use Rattle.std.specs.Prelude.{◌≡◌, ◌<◌, length, get_or, IfOk, IfSome, OnOk};
 ghost use Rattle.term_table.specs.Table.{IsKnown, tree_at, Extends, Stands};
@@ -101,7 +100,7 @@ fn by_right(
     Ok(moved)
 }
 
-/// Access by one hypothesis: as it stands, from an implication, or from an instance.
+/// Access by one hypothesis: directly, from an implication, or from an instance.
 #[tactic(auto, using(goal_proofs::proofs::WordRows::rows))]
 fn by_hyp(
     table: &mut Table,
@@ -190,8 +189,11 @@ fn by_hyps(
     Ok(None)
 }
 
-/// The proof of a goal that asks to load or to store, by the hypotheses of the context; none of any
-/// other goal. `counted` says whether steps are counted.
+/// Returns the proof of a goal that is the right to load or store, by the hypotheses of the
+/// context: None for any other goal, and if there is no proof. `counted` says whether steps are
+/// counted.
+///
+/// Errors: out of memory, or the limit of `search` is reached; each id keeps its tree.
 pub fn proof_by_access(
     table: &mut Table,
     search: &mut Search,

@@ -1,7 +1,6 @@
 //! Access by a hypothesis with a premise, `(imp P Q)` or `(all (imp P Q))`, Q giving access.
 //!
-//! Errors: want of memory alone, which more results than the search may keep are too; each id keeps
-//! its tree.
+//! Errors: out of memory, or the search's limit is reached; each id keeps its tree.
 
 ghost use Rattle.std.specs.Prelude.{◌≡◌, true, [], List, IfOk, IfSome, OnOk};
 ghost use Rattle.term_table.specs.Table.{IsKnown, tree_at, Extends};
@@ -56,7 +55,7 @@ fn down(table: &mut Table, form: Id, way: &[Side], proof: Id) -> Result<Id, Allo
     }
 }
 
-/// The proof of the access that is asked for, from an implication by `proof`, by what was found.
+/// The proof of the access that the goal names, from an implication by `proof`, by what was found.
 #[tactic(auto, using(goal_proofs::proofs::Kept::rows))]
 fn granted(
     table: &mut Table,
@@ -116,7 +115,7 @@ fn instance_proof(
     Ok(instance)
 }
 
-/// The proof of the access that is asked for, from a quantified implication.
+/// The proof of the access that the goal names, from a quantified implication.
 #[tactic(auto, using(goal_proofs::proofs::Kept::rows))]
 fn granted_instance(
     table: &mut Table,
@@ -151,7 +150,7 @@ fn granted_instance(
     Ok(made)
 }
 
-/// The proof of the access that is asked for, from the hypothesis, by what was found.
+/// The proof of the access that the goal names, from the hypothesis, by what was found.
 #[tactic(auto, using(goal_proofs::proofs::Kept::rows))]
 fn granted_by(
     table: &mut Table,
@@ -186,7 +185,7 @@ fn granted_by(
     }
 }
 
-/// The proof of the access that is asked for, from the hypothesis; none where no address of its
+/// The proof of the access that the goal names, from the hypothesis; None if no address of its
 /// conclusion gives it.
 #[tactic(auto, using(goal_proofs::proofs::WordRows::rows))]
 pub(crate) fn by_grant(

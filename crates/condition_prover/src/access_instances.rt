@@ -1,8 +1,7 @@
-//! What is put for the variable of a quantified hypothesis, so that an address of its conclusion is
-//! the one that is asked for.
+//! Instantiates the variable of a quantified hypothesis, so that an address of its conclusion is
+//! the one that the goal names.
 //!
-//! Errors: want of memory alone, which more results than the search may keep are too; each id keeps
-//! its tree.
+//! Errors: out of memory, or the search's limit is reached; each id keeps its tree.
 
 ghost use Rattle.std.specs.Prelude.{◌≡◌, true, Option, Some, IfOk, IfSome, OnOk};
 ghost use Rattle.std.specs.Bool.{Decides};
@@ -24,7 +23,7 @@ use sum_proofs::{eighth, occurs, rest_of, summand_count};
 use term_table::{Id, Node, Table};
 use word_ops::Op;
 
-/// A base and variable 0, or 8 times that where scaled.
+/// A base plus variable 0, or plus 8 times that if scaled.
 #[derive(Clone, Copy)]
 struct Indexed {
     base: Id,
@@ -67,7 +66,7 @@ fn is_scaled(table: &Table, e: Id) -> bool
     }
 }
 
-/// The address as a base and variable 0, or 8 times that; none where it is neither.
+/// The address as a base plus variable 0, or plus 8 times that; None if it is neither.
 fn split_address(table: &Table, z: Id) -> Option<Indexed>
     requires { IsKnown table.now z }
     ensures known { IfSome result (λ i. IsKnown table.now i.base) }
@@ -94,7 +93,7 @@ fn split_address(table: &Table, z: Id) -> Option<Indexed>
     }
 }
 
-/// Whether variable 0 stands in the expression.
+/// Whether variable 0 occurs in the expression.
 #[tactic(auto, using(goal_proofs::proofs::Kept::rows))]
 fn has_variable(table: &Table, search: &mut Search, e: Id) -> Result<bool, Exhausted>
     requires e { IsKnown table.now e }
@@ -105,7 +104,7 @@ fn has_variable(table: &Table, search: &mut Search, e: Id) -> Result<bool, Exhau
     occurs(table, &mut search.memo, &mut search.occurrences, e)
 }
 
-/// What is left of the address `a` without the base, where 0 is put for the variable.
+/// What remains of the address `a` without the base, with 0 put for the variable.
 #[tactic(auto, using(goal_proofs::proofs::Kept::rows))]
 fn rest_at(
     table: &mut Table,
@@ -134,7 +133,7 @@ fn rest_at(
     Ok(rest)
 }
 
-/// The rest, an eighth of it where scaled.
+/// The rest, or an eighth of it if scaled.
 fn scaled_rest(table: &mut Table, scaled: bool, rest: Option<Id>) -> Result<Option<Id>, AllocError>
     requires { IfSome rest (IsKnown table.old) }
     ensures known { IfOk result (λ o. IfSome o (IsKnown table.new)) }
@@ -155,7 +154,7 @@ fn scaled_rest(table: &mut Table, scaled: bool, rest: Option<Id>) -> Result<Opti
     }
 }
 
-/// What is put for the variable of an address with this base.
+/// The expression to put for the variable of an address with this base.
 #[tactic(auto, using(goal_proofs::proofs::Kept::rows))]
 fn index_at(
     table: &mut Table,
@@ -183,8 +182,8 @@ fn index_at(
     Ok(index)
 }
 
-/// What is put for variable 0 of the address `z`, so that it means the address `a`. None where `z`
-/// is no base and variable 0, plain or times 8, or where `a` hasn't all summands of the base.
+/// The expression to put for variable 0 of the address `z`, so that it means the address `a`. None
+/// if `z` isn't a base plus variable 0, plain or times 8, or if `a` lacks a summand of the base.
 #[tactic(auto, using(goal_proofs::proofs::Kept::rows))]
 pub(crate) fn instance_of(
     table: &mut Table,

@@ -1,7 +1,6 @@
-//! Addresses with one normal form, and the step from access to one to access to the other.
+//! Addresses with one normal form, and the proof step from access at one to access at the other.
 //!
-//! Errors: want of memory alone, which more results than the search may keep are too; each id keeps
-//! its tree.
+//! Errors: out of memory, or the search's limit is reached; each id keeps its tree.
 
 ghost use Rattle.std.specs.Prelude.{◌≡◌, if◌then◌else◌, Some, None, IfOk, IfSome, OnOk};
 ghost use Rattle.term_table.specs.Table.{IsKnown, tree_at, Extends, Stands};
@@ -21,7 +20,7 @@ use std::alloc::AllocError;
 use sum_proofs::equal_proof;
 use term_table::{Id, Node, Table};
 
-/// Whether the access that is given is the one that is asked for.
+/// Whether the given access is the one that the goal names.
 pub(crate) fn is_asked(asked: Access, given: Access) -> bool
     ensures { (z : Exp) → right_address (access_of asked) (right_form given z)
         ≡ if result then Some z else None }
@@ -132,7 +131,7 @@ pub(crate) fn access_move(
     Ok(moved)
 }
 
-/// The same where the normal forms are one, else none.
+/// The proof of access at `a` from access at `z`, if their normal forms are equal, else None.
 #[tactic(auto, using(goal_proofs::proofs::Kept::rows))]
 pub(crate) fn moved_access(
     table: &mut Table,

@@ -1,8 +1,8 @@
-//! The first address in a hypothesis' conclusion by which it gives access.
+//! Finds the first address in a hypothesis' conclusion by which it gives access.
 //!
-//! Conjunctions are gone through from the left. Whether an address gives access doesn't depend on
-//! the way to it, so no part of the conclusion is gone through twice. Errors: want of memory alone,
-//! which more results than the search may keep are too; each id keeps its tree.
+//! Conjunctions are searched from the left. Whether an address gives access doesn't depend on the
+//! path to it, so no part of the conclusion is visited twice. Errors: out of memory, or the
+//! search's limit is reached; each id keeps its tree.
 
 ghost use Rattle.std.specs.Prelude.{◌≡◌, ◌<◌, true, Option, Some, List, IfOk, IfSome, OnOk};
 ghost use Rattle.std.specs.Option.{option_map};
@@ -25,7 +25,8 @@ use std::alloc::AllocError;
 use std::collections::BTreeSet;
 use term_table::{Id, Table};
 
-/// What is asked for, at which address, and whether steps are counted where premises are proved.
+/// The access that the goal names, its address, and whether steps are counted when premises are
+/// proved.
 #[derive(Clone, Copy)]
 pub(crate) struct Asked {
     pub(crate) counted: bool,
@@ -33,7 +34,7 @@ pub(crate) struct Asked {
     pub(crate) address: Id,
 }
 
-/// A hypothesis `(imp premise conclusion)`, or where quantified `(all (imp premise conclusion))`.
+/// A hypothesis `(imp premise conclusion)`, or if quantified `(all (imp premise conclusion))`.
 #[derive(Clone, Copy)]
 pub(crate) struct Grant {
     pub(crate) quantified: bool,
@@ -85,7 +86,7 @@ fn part_of(form: Id) -> Part
     }
 }
 
-/// What the address gives where the premise is proved.
+/// What the address gives if the premise is proved.
 fn opened(
     table: &mut Table,
     search: &mut Search,
@@ -119,7 +120,7 @@ fn opened(
     }
 }
 
-/// What the address gives where it has the normal form of `a` and the premise is proved.
+/// What the address gives if it has the normal form of `a` and the premise is proved.
 #[tactic(auto, using(goal_proofs::proofs::WordRows::rows))]
 fn opened_by(
     table: &mut Table,
@@ -152,7 +153,7 @@ fn opened_by(
     Ok(opening)
 }
 
-/// The same where `put` is still to be put for the variable.
+/// What the address gives, as `opened_by` finds it, after `put` is put for the variable.
 #[tactic(auto, using(goal_proofs::proofs::WordRows::rows))]
 fn opened_with(
     table: &mut Table,
@@ -257,7 +258,8 @@ fn opening_at(
     }
 }
 
-/// The same, with the way from the address to itself. Kept out of the walk's frames.
+/// What the address of the conclusion gives, with the empty way to it. Kept out of the walk's
+/// frames.
 #[inline(never)]
 #[tactic(auto, using(goal_proofs::proofs::WordRows::rows))]
 fn found_at(
@@ -291,7 +293,7 @@ fn found_at(
     }
 }
 
-/// What was found, one conjunction further out. Kept out of the walk's frames.
+/// The result, one conjunction further out. Kept out of the walk's frames.
 #[inline(never)]
 fn from_side(found: Found, side: Side) -> Result<Option<Found>, AllocError>
     ensures known { (t : TableView) → IsKnownFound t found
@@ -345,7 +347,7 @@ pub(crate) fn walk(
     }
 }
 
-/// The same of a part that wasn't gone through.
+/// The first address that gives access in a part that wasn't visited yet.
 #[cycle(walking)]
 #[tactic(auto, using(goal_proofs::proofs::WordRows::rows))]
 fn walk_parts(
@@ -394,7 +396,7 @@ fn walk_parts(
     }
 }
 
-/// The same of a conjunction.
+/// The first address that gives access in a conjunction.
 #[cycle(walking)]
 #[tactic(auto, using(goal_proofs::proofs::WordRows::rows))]
 fn walk_both(

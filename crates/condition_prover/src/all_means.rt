@@ -1,7 +1,6 @@
-//! Proofs of goals by all means: words, and access to memory by hypotheses.
+//! Proofs of goals by all methods: words, and access to memory by hypotheses.
 //!
-//! Errors: want of memory alone, which more results than the search may keep are too; each id keeps
-//! its tree.
+//! Errors: out of memory, or the search's limit is reached; each id keeps its tree.
 
 ghost use Rattle.std.specs.Prelude.{◌≡◌, IfOk, IfSome, OnOk};
 ghost use Rattle.term_table.specs.Table.{IsKnown, Extends};
@@ -70,11 +69,10 @@ fn by_all_means(
     }
 }
 
-/// The proof of `goal` under the hypotheses of `context` by connectives and by all means; none where
-/// they give none. `counted` says whether steps are counted.
+/// Returns the proof of `goal` under the hypotheses of `context` by connectives and by all methods:
+/// None if they give none. `counted` says whether steps are counted.
 ///
-/// Errors: want of memory alone, which more results than `search` may keep are too; each id keeps its
-/// tree.
+/// Errors: out of memory, or the limit of `search` is reached; each id keeps its tree.
 pub fn proof_by_all_means(
     table: &mut Table,
     search: &mut Search,

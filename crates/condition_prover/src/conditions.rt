@@ -1,7 +1,7 @@
-//! The verification condition of cut code, and its proof.
+//! The verification condition of annotated code, and its proof.
 //!
-//! Errors: want of memory alone, which more results than the search may keep and the terms that it
-//! makes are too; each id keeps its tree.
+//! Errors: out of memory, or the limit of the search, in which the terms that it builds count too,
+//! is reached; each id keeps its tree.
 
 ghost use Rattle.std.specs.Prelude.{◌≡◌, ◌<◌, ◌≤◌, true, map, length, IfOk, None, is_some};
 ghost use Rattle.alpha_cfg.specs.Flow.{IsCode, AreOfProfile};
@@ -34,11 +34,11 @@ use prover_class::class_laws;
 use term_table::{Id, Table};
 use vcgen::{VcFault, vc};
 
-/// The most results that the search for a proof keeps, with what its terms and steps count as: more
-/// than a check's, since a goal that stands in 2^16 contexts is to be decided in each.
+/// The most results that the search for a proof caches, counting its terms and steps. It is more
+/// than a check's limit, since a goal that occurs in 2^16 contexts has to be decided in each.
 pub const MOST_SEARCHED: usize = 6_500_000;
 
-/// What is known of cut code.
+/// States what holds of every `Cut`; runs nothing.
 fn is_cut_code(cut: &Cut)
     ensures code { IsCode cut.now.code }
     ensures cut { IsCut cut.now.code cut.now.marks }
@@ -46,7 +46,7 @@ fn is_cut_code(cut: &Cut)
     let _ = cut.code().insns();
 }
 
-/// What its type says of a bound.
+/// States that a bound is a word, by its type; runs nothing.
 fn is_word(bound: Option<u32>)
     ensures { IsBound bound }
 {
@@ -56,10 +56,11 @@ fn is_word(bound: Option<u32>)
     }
 }
 
-/// The encoding of the verification condition as the conjunction of its parts, its unfolded length
-/// being within its limit. The arguments are those of `prove_condition`.
+/// Builds the encoding of the verification condition as the conjunction of its parts. The total
+/// length of the paths between cut points has to be within its limit. The arguments are those of
+/// `prove_condition`.
 ///
-/// Errors: want of memory, and `Results` where more results of substitution would be kept than
+/// Errors: out of memory, and `Results` if more results of substitution would be cached than
 /// `vcgen` allows; each id keeps its tree.
 pub fn condition_in(
     table: &mut Table,
@@ -85,18 +86,19 @@ pub fn condition_in(
     }
 }
 
-/// Proves the verification condition of cut code under a policy, part by part, where each is easy
-/// (`prover_class`), or names the first part that isn't. `invs` are the annotated indices with the
-/// ids of their invariants, whose terms are formulas and no higher than `vcgen::MAX_HEIGHT`; `bound`
-/// is the most steps that the code is to make, where they are bounded. A proof that is no higher than
-/// that checks at the condition over each signature that has the condition's operators, and where
-/// steps are counted the rule `sub_lo`: over the third always; where they aren't over the second, and
-/// over the first where the code and the policy's formulas are the first profile's, and the
-/// invariants check over it. Its weight and height are the table's (`Table::weight`,
-/// `Table::height`).
+/// Proves the verification condition of annotated code under a policy, part by part, if each is
+/// easy (`prover_class`), or names the first part that isn't. `invs` are the cut points, as
+/// instruction indices, with the ids of their invariants, whose terms are formulas and no higher
+/// than `vcgen::MAX_HEIGHT`. `bound` is the most steps that the code may make, if they are bounded.
 ///
-/// Fails for want of memory, and by `Results` where the results that the search keeps and the terms
-/// that it makes are more than `MOST_SEARCHED`.
+/// A proof that is no higher than that limit checks against the condition over each signature that
+/// has the condition's operators and, if steps are counted, the rule `sub_lo`: always over the
+/// third. If steps aren't counted, it checks over the second too, and over the first if the code
+/// and the policy's formulas are those of profile 1 and the invariants check over it. The table
+/// gives its weight and height (`Table::weight`, `Table::height`).
+///
+/// Errors: out of memory, and `Results` if the results that the search caches and the terms that it
+/// builds are more than `MOST_SEARCHED`.
 pub fn prove_condition(
     table: &mut Table,
     policy: &Policy,

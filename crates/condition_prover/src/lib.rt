@@ -1,11 +1,13 @@
-//! The prover of easy conditions, on ids of a table.
+//! Proves the verification condition of annotated code, or names the first part that it can't
+//! prove.
 //!
-//! The layer above uses that `prove_condition` answers, for cut code under a policy, the proof of its
-//! verification condition that the class of easy conditions gives (`prover_class`), which checks at the
-//! condition, or the first part that isn't easy (`specs/Conditions`). Below, `proof_by_all_means` and
-//! `proof_by_access` answer, for whatever hypotheses and goal the ids stand for, what the class's
-//! definition gives, of any goal and of the right to load or store: a proof as a term, or none. Source: Necula, Proof-Carrying Code, POPL
-//! 1997 (the rules); the search is this project's own.
+//! The layer above uses that `prove_condition` returns the proof that `prover_class` defines for
+//! the verification condition of code under a policy, or the first part that isn't easy
+//! (`specs/Conditions`). Every cycle of the code has to contain a cut point. The proof checks
+//! against the condition. Below it, `proof_by_all_means` and `proof_by_access` return what the
+//! definitions give for any hypotheses and goal that the ids stand for: the first for any goal, the
+//! second for the right to load or store. The result is a proof term, or None. Source: Necula,
+//! Proof-Carrying Code, POPL 1997 (the rules); the search is this project's own.
 #![tactic(auto)]
 
 mod access;

@@ -1,7 +1,6 @@
 //! The parts of a condition, one after another.
 //!
-//! Errors: want of memory alone, which more results than the search may keep are too; each id keeps
-//! its tree.
+//! Errors: out of memory, or the search's limit is reached; each id keeps its tree.
 
 ghost use Rattle.std.specs.Prelude.{◌≡◌, ◌<◌, List, IfOk, IfSome, OnOk};
 ghost use Rattle.term_table.specs.Table.{IsKnown, tree_at, Extends, Stands};
@@ -21,11 +20,12 @@ use lf_rules::numbers::{AND_I, TT_I};
 use lf_rules::rule_term;
 use term_table::{Id, Table};
 
-/// What is found of a condition.
+/// The result of the search for a condition's proof.
 pub enum ConditionProof {
-    /// The proof of all parts.
+    /// The proof of all parts, an id of the table.
     Proved(Id),
-    /// The number of the first part that isn't easy: 0 is the entry's, k + 1 that of invariant k.
+    /// The number of the first part that isn't easy: 0 is the entry's part, k + 1 that of invariant
+    /// k.
     NotEasy(u32),
 }
 
@@ -36,8 +36,8 @@ struct Conjunction {
     rest: Id,
 }
 
-/// The first part of a condition and the rest; none where there are no parts. Of an id that encodes no
-/// parts one after another it says nothing, but that the rest's id is lower.
+/// The first part of a condition and the rest; None if there are no parts. If an id encodes no
+/// parts one after another, the result says only that the rest's id is lower.
 fn first_and_rest(table: &Table, condition: Id) -> Option<Conjunction>
     requires { IsKnown table.now condition }
     ensures known { IfSome result (λ c. IsKnown table.now c.first × IsKnown table.now c.rest) }
@@ -51,8 +51,8 @@ fn first_and_rest(table: &Table, condition: Id) -> Option<Conjunction>
     }
 }
 
-/// How many binders count as outside of a part: that of the steps that are left does, where no steps
-/// are counted and it isn't the part's own.
+/// Returns how many binders count as outside a part: one, the binder of the remaining steps, if
+/// steps aren't counted and so it isn't the part's own; else 0.
 pub fn outside_part(counted: bool) -> u32
     ensures { result ≡ outside_part counted }
 {
@@ -81,10 +81,11 @@ fn part_proof(
     Ok(proof)
 }
 
-/// The proof of a condition, part by part, or the number of the first part that isn't easy, where the
-/// parts' numbers begin at `number`. It says so of whatever parts the id is the conjunction of, one
-/// after another and ended by truth. `counted` says whether steps are counted. Fails where a number
-/// would be 2^32, and where memory does.
+/// The proof of a condition, part by part, or the number of the first part that isn't easy, the
+/// parts' numbers beginning at `number`. It holds for whatever parts the id is the conjunction of,
+/// one after another and ended by truth. `counted` says whether steps are counted.
+///
+/// Errors: a number would be 2^32, or out of memory.
 #[tactic(auto, using(goal_proofs::proofs::Kept::rows))]
 pub(crate) fn proof_of_parts(
     table: &mut Table,

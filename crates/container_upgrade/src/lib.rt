@@ -1,8 +1,8 @@
-//! Containers of version 1 as containers of version 2.
+//! Upgrades a container of version 1 to version 2, with its code, invariants and proof.
 //!
-//! The layer above uses that `upgraded` gives exactly what `specs/Upgrading` says, or the first
-//! refusal of its order, and by `laws` that this is a container of the same code, invariants and
-//! proof for the same policy, which is accepted where the first is. The format is that of
+//! The layer above uses that `upgraded` returns exactly what `specs/Upgrading` says, or the first
+//! error in its order. By `laws` the result is a container of the given code, invariants and proof
+//! for the policy of the first container, and it is accepted if the first is. The format is that of
 //! `proof_container`.
 #![tactic(auto)]
 

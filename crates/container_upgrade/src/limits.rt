@@ -1,5 +1,5 @@
-//! How the sizes of the two versions differ.
+//! The difference in size between the two versions.
 
-/// How many bytes a container of version 2 has more than one of version 1 with the same code,
-/// invariants and proof: a digest of 32 bytes stands in place of a number of 4.
+/// How many bytes a container of version 2 has more than one of version 1 with equal code,
+/// invariants and proof: a digest of 32 bytes replaces a number of 4 bytes.
 pub const GROWTH: u32 = 28;

@@ -1,10 +1,10 @@
-//! What holds of what containers are upgraded to, with nothing to run.
+//! Theorems about upgraded containers; their functions run nothing.
 
 ghost use Rattle.container_upgrade.specs.Laws.{UpgradedExactly, UpgradedAccepted};
 
-/// What bytes are upgraded to is told by a relation between two containers; and what an accepted
-/// container is upgraded to is accepted, since what the first profile and signature have the second
-/// have alike.
+/// States that a relation between two containers says what bytes are upgraded to, and that an
+/// accepted container is upgraded to an accepted one: whatever profile 1 and its signature have,
+/// the later ones have unchanged.
 pub fn laws()
     ensures exactly { UpgradedExactly }
     ensures accepted { UpgradedAccepted }

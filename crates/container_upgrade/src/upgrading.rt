@@ -1,4 +1,4 @@
-//! The container of version 2 of one of version 1.
+//! Builds the version 2 container of a version 1 container.
 
 ghost use Rattle.std.specs.Prelude.{◌≡◌, ◌≤◌, length, IfOk, OnOk};
 ghost use Rattle.policy_set.specs.Views.{built_in};
@@ -76,8 +76,9 @@ fn size_within(size: u64) -> Result<u64, UpgradeFault>
     Ok(size)
 }
 
-/// What names the built-in policy of the kind in a container of version 2. Fails only for want of
-/// memory.
+/// The field that names the built-in policy of the kind in a container of version 2.
+///
+/// Errors: out of memory alone.
 fn head_of(alloc: Global, kind: PolicyKind) -> Result<Head, AllocError>
     ensures { IfOk result (λ h. h ≡ Digest (digest_of (built_in kind))) }
 {
@@ -86,13 +87,13 @@ fn head_of(alloc: Global, kind: PolicyKind) -> Result<Head, AllocError>
     Ok(Head::Digest(made))
 }
 
-/// The container of version 2, as bytes, with the code, the invariants and the proof of the
-/// container of version 1 that the bytes are, for the same built-in policy.
+/// Returns the container of version 2, as bytes, with the code, the invariants and the proof of the
+/// container of version 1 that the bytes are, for its built-in policy.
 ///
-/// Errors, the first of these: `TooLong` past `MAX_BYTES`; `Malformed` where the bytes are no
-/// container; `Already` where it is of a later version; `OtherPolicy` where no built-in policy has
-/// the number that it names; `TooBig` where there would be more than `MAX_BYTES` bytes; `Memory`
-/// says nothing of the bytes.
+/// Errors, the first of these: `TooLong` past `MAX_BYTES`; `Malformed` if the bytes are no
+/// container; `Already` if the container is of a later version; `OtherPolicy` if no built-in policy
+/// has the number that it names; `TooBig` if there would be more than `MAX_BYTES` bytes; `Memory`,
+/// which says nothing about the bytes.
 #[tactic(auto, unfolding(crate::specs::Upgrading::upgraded_container))]
 pub fn upgraded(alloc: Global, bytes: &[u8]) -> Result<Vec<u8>, UpgradeFault>
     ensures exact { IsUpgraded (λ out. out.items) (upgraded_container bytes.now) result }

@@ -1,4 +1,4 @@
-//! What stands at the head of a formula.
+//! The head of a formula.
 
 ghost use Rattle.std.specs.Prelude.{◌≡◌};
 ghost use Rattle.term_table.specs.Table.{IsKnown, tree_at};
@@ -12,39 +12,39 @@ use lf_signature::rel_of_constant;
 use term_table::{Id, Node, Table};
 use word_ops::Rel;
 
-/// What is done at an address.
+/// The kind of a memory access.
 #[derive(Clone, Copy)]
 pub enum Access {
-    /// To load from it.
+    /// A load from the address.
     Load,
-    /// To store there.
+    /// A store to the address.
     Store,
 }
 
-/// A formula by its head, its parts as ids.
+/// A formula's head, with its parts as ids.
 #[derive(Clone, Copy)]
 pub enum FormNode {
-    /// What always holds.
+    /// Truth.
     True,
-    /// What never holds.
+    /// Falsity.
     False,
-    /// A relation of two expressions.
+    /// A relation between two expressions.
     Relation(Rel, Id, Id),
-    /// The right to an access at an address.
+    /// The right to an access at an address: the address is readable or writable.
     Right(Access, Id),
-    /// Both.
+    /// A conjunction of two formulas.
     And(Id, Id),
-    /// One of two.
+    /// A disjunction of two formulas.
     Or(Id, Id),
-    /// From the first to the second.
+    /// An implication: hypothesis, conclusion.
     Imp(Id, Id),
-    /// For all words: the formula under the binder.
+    /// A universal quantifier over words: the formula under the binder.
     All(Id),
-    /// For all memories: the formula under the binder.
+    /// A universal quantifier over memories: the formula under the binder.
     AllMem(Id),
 }
 
-/// A constant at one argument; `body` is what stands under the argument's binder.
+/// A constant applied to one argument; `body` is the term under the argument's binder.
 fn unary(constant: u32, argument: Id, body: Option<Id>) -> FormNode
     ensures { result ≡ unary_node constant argument body }
 {
@@ -84,7 +84,7 @@ fn binary(constant: u32, a: Id, b: Id) -> FormNode
     }
 }
 
-/// What stands under a binder.
+/// The term under a binder.
 fn body_of(table: &Table, id: Id) -> Option<Id>
     requires { IsKnown table.now id }
     ensures { IsBody table.now id result }
@@ -95,8 +95,8 @@ fn body_of(table: &Table, id: Id) -> Option<Id>
     }
 }
 
-/// What stands at the head of the formula that `id` encodes. Of an id that encodes none it says
-/// nothing, but that the parts' ids and heights are lower.
+/// Returns the head of the formula that `id` encodes. If `id` encodes no formula, the result says
+/// only that the parts' ids and heights are lower.
 pub fn form_node(table: &Table, id: Id) -> FormNode
     requires { IsKnown table.now id }
     ensures is { (A : Form) → tree_at table.now id ≡ form_encoding A

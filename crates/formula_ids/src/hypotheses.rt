@@ -19,10 +19,11 @@ pub struct Hypothesis {
     pub proof: Id,
 }
 
-/// The tree under one more binder, with the shifts that `memo` keeps of earlier calls on the table.
+/// Returns the tree under one more binder: each free variable is raised by one. Uses the shifts
+/// that earlier calls on the table cached in `memo`.
 ///
-/// Errors: want of memory alone, which a variable that would reach 2^32 and more results than the
-/// memo may keep are too; each id keeps its tree.
+/// Errors: out of memory, also if a variable would reach 2^32, or the limit of `memo` is reached;
+/// each id keeps its tree.
 pub fn raised(table: &mut Table, memo: &mut Memo, id: Id) -> Result<Id, Exhausted>
     requires known { IsKnown table.old id }
     requires memo { IsMemo table.old memo.old }

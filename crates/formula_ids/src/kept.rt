@@ -1,7 +1,8 @@
-//! Answers that are kept, so that no question is gone through twice.
+//! Cached answers, so that no question is decided twice.
 //!
-//! A kind of question is a key with its [`Question`]: what is answered, when an answer is right, and
-//! that a right answer stays right as the table grows. Rows are found by the order of keys.
+//! A kind of question is a key type with its [`Question`]: the type of its answers, when an answer
+//! is right, and that a right answer stays right as the table grows. Rows are found by the order of
+//! keys.
 
 ghost use Rattle.std.specs.Prelude.{◌≡◌, ◌+◌, IfSome, List, OnOk};
 ghost use Rattle.term_table.specs.Table.{TableView};
@@ -16,15 +17,15 @@ use std::alloc::Global;
 use std::collections::BTreeMap;
 use term_table::{Id, Table};
 
-/// What is asked of a table: a key of all that the answer depends on, but for the hypotheses that it is
-/// asked under. Those are none where the answer depends on no hypotheses.
+/// A cache key: a question about a table, with all that its answer depends on except the
+/// hypotheses. These are an empty list if the answer depends on no hypotheses.
 pub trait Question: Copy + Drop + Ord {
     ghost use Rattle.std.specs.Prelude.{◌≡◌, true, List};
     ghost use Rattle.term_table.specs.Table.{TableView, Extends};
     ghost use Rattle.formula_ids.specs.declared.hypotheses.Hypothesis.{Hypothesis as H};
     ghost use Rattle.formula_ids.specs.Hypotheses.{AreKnownHyps};
 
-    /// What is answered.
+    /// The type of answers.
     type Answer: Copy + Drop;
 
     // Under the hypotheses the answer is right of the table.
@@ -38,13 +39,13 @@ pub trait Question: Copy + Drop + Ord {
         AreKnownHyps t hyps → is_right hyps t q r → is_right hyps u q r };
 }
 
-/// Answers that were found to questions of one kind, on one table and under the same hypotheses.
+/// Cached answers to questions of one kind, on one table and under one list of hypotheses.
 #[derive(Drop)]
 pub struct Kept<Q: Question> {
     rows: BTreeMap<Q, Q::Answer>,
 }
 
-/// The id as a number, as keys have it.
+/// Returns the id as a number, as keys have it.
 pub fn number(id: Id) -> u64
     ensures { result ≡ id }
 {
@@ -52,7 +53,7 @@ pub fn number(id: Id) -> u64
 }
 
 impl<Q: Question> Kept<Q> {
-    /// None yet, which takes no memory.
+    /// Returns an empty cache, which allocates nothing yet.
     pub fn new(alloc: Global) -> Kept<Q>
         ensures { (hyps : List H) (t : TableView) → AreRight Q.cmp (Q.is_right hyps) t result }
     {
@@ -61,7 +62,7 @@ impl<Q: Question> Kept<Q> {
         }
     }
 
-    /// The answer that is kept of the question, under the hypotheses `hyps`.
+    /// Returns the cached answer to the question under the hypotheses `hyps`, if there is one.
     pub fn get(&self, table: &Table, hyps: &[Hypothesis], question: &Q) -> Option<Q::Answer>
         requires { AreRight Q.cmp (Q.is_right hyps.now) table.now self.now }
         ensures { IfSome result (Q.is_right hyps.now table.now question.now) }
@@ -72,9 +73,10 @@ impl<Q: Question> Kept<Q> {
         self.rows.get(question).copied()
     }
 
-    /// Keeps an answer to the question, under the hypotheses `hyps`. It counts as a result of `memo`.
+    /// Caches an answer to the question under the hypotheses `hyps`. It counts as a result of
+    /// `memo`.
     ///
-    /// Errors: past the limit of `memo`, and want of memory; then nothing more is kept.
+    /// Errors: past the limit of `memo`, and out of memory; then nothing more is cached.
     pub fn keep(
         &mut self,
         memo: &mut Memo,

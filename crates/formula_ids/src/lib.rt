@@ -1,10 +1,11 @@
-//! Formulas and expressions as ids of a table, read one node at a time.
+//! Reads formulas and expressions, as ids of a table, one node at a time.
 //!
-//! The layers above use that `form_node` and `exp_node` say of the id of a formula's or an
-//! expression's encoding what stands at its head, and give the ids of its parts (`specs/Nodes`); a
-//! part's id is lower. So a shared part is one id, and equal formulas are equal ids. The steps that all
-//! proofs are made of stand here too (`steps`). Sources: Harper, Honsell and Plotkin, A Framework for
-//! Defining Logics, JACM 1993 (adequacy of encodings); Necula, Proof-Carrying Code, POPL 1997 (rules).
+//! The layers above use that `form_node` and `exp_node` return the head of the formula or
+//! expression that an id encodes, with the ids of its parts (`specs/Nodes`); a part's id is lower.
+//! So a shared part is one id, and equal formulas are equal ids. This crate also has the steps that
+//! all proofs are made of (`steps`) and cached answers (`Kept`). Sources: Harper, Honsell and
+//! Plotkin, A Framework for Defining Logics, JACM 1993 (adequacy of encodings); Necula,
+//! Proof-Carrying Code, POPL 1997 (rules).
 #![tactic(auto)]
 
 mod forms;

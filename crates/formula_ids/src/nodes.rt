@@ -1,4 +1,4 @@
-//! What stands at the head of an expression or a memory.
+//! The head of an expression or a memory.
 
 ghost use Rattle.std.specs.Prelude.{◌≡◌, ◌<◌, IfSome};
 ghost use Rattle.term_table.specs.Table.{IsKnown, tree_at};
@@ -11,29 +11,29 @@ ghost use Rattle.formula_ids.specs.Inside.Heads.{applied_node};
 use term_table::{Id, Node, Table};
 use word_ops::{Op, op_of_constant};
 
-/// An expression by its head, its parts as ids.
+/// An expression's head, with its parts as ids.
 #[derive(Clone, Copy)]
 pub enum ExpNode {
     /// A variable; 0 is the nearest binder's.
     Var(u32),
-    /// A word.
+    /// A word (literal).
     Word(u64),
-    /// An operator at two expressions.
+    /// An operator applied to two expressions.
     Apply(Op, Id, Id),
-    /// What a memory has at an address.
+    /// The word of a memory at an address: the memory, the address.
     Sel(Id, Id),
-    /// What no variable stands for yet: a register, or the steps that are left.
+    /// A register, or the remaining steps, for which no variable is substituted yet.
     Unbound,
 }
 
-/// A memory by its head, its parts as ids.
+/// A memory's head, with its parts as ids.
 #[derive(Clone, Copy)]
 pub enum MemNode {
     /// A variable; 0 is the nearest binder's.
     Var(u32),
     /// A memory after a store of a word: the memory before, the address, the word.
     Upd(Id, Id, Id),
-    /// What no variable stands for yet.
+    /// The machine's memory, for which no variable is substituted yet.
     Unbound,
 }
 
@@ -47,8 +47,8 @@ fn applied(constant: u32, a: Id, b: Id) -> ExpNode
     }
 }
 
-/// What stands at the head of the expression that `id` encodes. Of an id that encodes none it says
-/// nothing, but that the parts' ids are lower.
+/// Returns the head of the expression that `id` encodes. If `id` encodes no expression, the result
+/// says only that the parts' ids are lower.
 pub fn exp_node(table: &Table, id: Id) -> ExpNode
     requires { IsKnown table.now id }
     ensures is { (e : Exp) → tree_at table.now id ≡ exp_encoding e → IsExpNode table.now e result }
@@ -68,8 +68,8 @@ pub fn exp_node(table: &Table, id: Id) -> ExpNode
     }
 }
 
-/// What stands at the head of the memory that `id` encodes. Of an id that encodes none it says
-/// nothing, but that the parts' ids are lower.
+/// Returns the head of the memory that `id` encodes. If `id` encodes no memory, the result says
+/// only that the parts' ids are lower.
 pub fn mem_node(table: &Table, id: Id) -> MemNode
     requires { IsKnown table.now id }
     ensures is { (m : MemExp) → tree_at table.now id ≡ mem_encoding m
@@ -89,17 +89,17 @@ pub fn mem_node(table: &Table, id: Id) -> MemNode
     }
 }
 
-/// The two expressions of an operator.
+/// The two operands of an operator.
 #[derive(Clone, Copy)]
 pub struct Sides {
-    /// The first.
+    /// The first operand.
     pub left: Id,
-    /// The second.
+    /// The second operand.
     pub right: Id,
 }
 
-/// The two expressions where the expression that `id` encodes is the operator `op` at them, else none.
-/// Of an id that encodes none it says nothing, but that the parts' ids are lower.
+/// Returns the operands of the expression that `id` encodes if its head is the operator `op`, else
+/// None. If `id` encodes no expression, the result says only that the operands' ids are lower.
 pub fn operands(table: &Table, op: Op, id: Id) -> Option<Sides>
     requires { IsKnown table.now id }
     ensures is { (e : Exp) → tree_at table.now id ≡ exp_encoding e
@@ -118,7 +118,7 @@ pub fn operands(table: &Table, op: Op, id: Id) -> Option<Sides>
     }
 }
 
-/// The word where the expression that `id` encodes is one, else none.
+/// Returns the word that the expression encoded by `id` is, else None.
 pub fn literal(table: &Table, id: Id) -> Option<u64>
     requires { IsKnown table.now id }
     ensures { (e : Exp) → tree_at table.now id ≡ exp_encoding e → IsLiteral e result }

@@ -48,7 +48,7 @@ pub(crate) fn put_form(
     Ok(put)
 }
 
-/// The same, by the formula's parts.
+/// The formula with `arg` for the variable `x`, by the formula's parts.
 #[cycle(formulas)]
 #[tactic(auto, using(crate::proofs::PutRows::rows))]
 fn put_form_parts(
@@ -149,10 +149,10 @@ fn put_under(
     Ok(app1(table, quantifier, function)?)
 }
 
-/// The formula with the expression `arg` for variable 0; the other variables are one less.
+/// Substitutes the expression `arg` for variable 0 in the formula `form`, without capture, and
+/// lowers the other variables by one. `kept` has the cached results of earlier calls on the table.
 ///
-/// Errors: want of memory alone, which more results than the memo may keep are too; each id keeps its
-/// tree.
+/// Errors: out of memory, or the limit of `memo` is reached; each id keeps its tree.
 pub fn put_word(
     table: &mut Table,
     memo: &mut Memo,
@@ -174,7 +174,10 @@ pub fn put_word(
     put_form(table, memo, kept, form, 0, arg)
 }
 
-/// The same of an expression.
+/// Substitutes the expression `arg` for variable 0 in the expression `exp`, and lowers the other
+/// variables by one. `kept` has the cached results of earlier calls on the table.
+///
+/// Errors: out of memory, or the limit of `memo` is reached; each id keeps its tree.
 pub fn put_word_exp(
     table: &mut Table,
     memo: &mut Memo,

@@ -1,7 +1,7 @@
 //! Substitution of an expression for one variable, on ids.
 //!
-//! Results are kept by the entry, the variable and what is put for it, so no part of a formula is gone
-//! through twice under as many binders.
+//! Results are cached by the node, the variable and the substituted expression, so no part of a
+//! formula is visited twice under as many binders.
 
 ghost use Rattle.std.specs.Prelude.{◌≡◌, ◌≤◌, IfOk, OnOk};
 ghost use Rattle.term_table.specs.Tree.{Var, spot};
@@ -24,14 +24,14 @@ use std::alloc::AllocError;
 use term_table::{Id, Node, Table};
 use word_ops::op_constant;
 
-/// What is asked: an entry, a variable, and what is put for it.
+/// A cache key for substitutions: a node, a variable, and the expression to substitute for it.
 #[derive(Clone, Copy, PartialEq, Eq, PartialOrd, Ord)]
 pub enum Put {
-    /// Of an expression.
+    /// A substitution in an expression.
     Exp(u64, u64, u64),
-    /// Of a memory.
+    /// A substitution in a memory.
     Mem(u64, u64, u64),
-    /// Of a formula.
+    /// A substitution in a formula.
     Form(u64, u64, u64),
 }
 
@@ -49,11 +49,11 @@ impl Question for Put {
     ghost lasts = { λ _ t u q r e _ h. put-lasts t u q r e h };
 }
 
-/// Results of substitutions on one table.
+/// Cached results of substitutions on one table.
 pub type Puts = Kept<Put>;
 
-/// The word variable `n`, whose id is `id`, with what is put for the variable `x`; variables past it
-/// are one less.
+/// The word variable `n`, whose id is `id`, with what is put for the variable `x`; variables past
+/// it are one less.
 fn put_word_variable(table: &mut Table, id: Id, n: u32, x: u64, arg: Id) -> Result<Id, AllocError>
     requires id { IsKnown table.old id }
     requires arg { IsKnown table.old arg }
@@ -72,7 +72,7 @@ fn put_word_variable(table: &mut Table, id: Id, n: u32, x: u64, arg: Id) -> Resu
     table.intern(Node::Var(n - 1))
 }
 
-/// The memory variable `n`, whose id is `id`, where a word is put for the variable `x`; variables past
+/// The memory variable `n`, whose id is `id`, with a word put for the variable `x`; variables past
 /// it are one less, and itself is read as m.
 fn put_memory_variable(table: &mut Table, id: Id, n: u32, x: u64) -> Result<Id, AllocError>
     requires id { IsKnown table.old id }
@@ -120,7 +120,7 @@ pub(crate) fn put_exp(
     Ok(put)
 }
 
-/// The same, by the expression's parts.
+/// The expression with `arg` for the variable `x`, by the expression's parts.
 #[cycle(words)]
 #[tactic(auto, using(crate::proofs::PutRows::rows))]
 fn put_exp_parts(
@@ -187,7 +187,7 @@ fn put_mem(
     Ok(put)
 }
 
-/// The same, by the memory's parts.
+/// The memory with `arg` for the variable `x`, by the memory's parts.
 #[cycle(words)]
 #[tactic(auto, using(crate::proofs::PutRows::rows))]
 fn put_mem_parts(

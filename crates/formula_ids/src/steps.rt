@@ -1,6 +1,6 @@
-//! Expressions, relations and the steps of proofs, made in a table.
+//! Builds expressions, relations and the steps of proofs in a table.
 //!
-//! Errors: want of memory alone; each id keeps its tree.
+//! Errors: out of memory alone, except in `swapped`; each id keeps its tree.
 
 ghost use Rattle.std.specs.Prelude.{◌≡◌, ◌≤◌, IfOk, OnOk};
 ghost use Rattle.term_table.specs.Table.{IsKnown, tree_at, Extends};
@@ -24,7 +24,7 @@ use std::alloc::AllocError;
 use term_table::{Id, Node, Table};
 use word_ops::{Op, Rel, op_constant, op_number};
 
-/// The operator at two expressions.
+/// Builds the operator `op` applied to two expressions.
 pub fn oper(table: &mut Table, op: Op, a: Id, b: Id) -> Result<Id, AllocError>
     requires a { IsKnown table.old a }
     requires b { IsKnown table.old b }
@@ -35,7 +35,7 @@ pub fn oper(table: &mut Table, op: Op, a: Id, b: Id) -> Result<Id, AllocError>
     app2(table, op_constant(op), a, b)
 }
 
-/// The relation of two expressions.
+/// Builds the relation `rel` between two expressions.
 pub fn relation(table: &mut Table, rel: Rel, a: Id, b: Id) -> Result<Id, AllocError>
     requires a { IsKnown table.old a }
     requires b { IsKnown table.old b }
@@ -46,7 +46,7 @@ pub fn relation(table: &mut Table, rel: Rel, a: Id, b: Id) -> Result<Id, AllocEr
     app2(table, rel_constant(rel), a, b)
 }
 
-/// The right to the access at the address.
+/// Builds the formula that gives the right to the access at the address.
 pub fn right(table: &mut Table, access: Access, address: Id) -> Result<Id, AllocError>
     requires address { IsKnown table.old address }
     ensures known { IfOk result (IsKnown table.new) }
@@ -60,7 +60,7 @@ pub fn right(table: &mut Table, access: Access, address: Id) -> Result<Id, Alloc
     }
 }
 
-/// The proof that the operator gives what it gives at two words.
+/// Builds the proof of what the operator gives at two words.
 pub fn calc(table: &mut Table, op: Op, v: u64, w: u64) -> Result<Id, AllocError>
     ensures id { IfOk result (IsIdOf table.new (calc op v w)) }
     ensures extends { Extends table.old table.new }
@@ -68,7 +68,7 @@ pub fn calc(table: &mut Table, op: Op, v: u64, w: u64) -> Result<Id, AllocError>
     table.intern(Node::Calc(op_number(op), v, w))
 }
 
-/// The proof that the relation holds of two words, where it does.
+/// Builds the proof that the relation holds of two words. It is a proof only if the relation holds.
 pub fn fact(table: &mut Table, rel: Rel, v: u64, w: u64) -> Result<Id, AllocError>
     ensures id { IfOk result (IsIdOf table.new (fact rel v w)) }
     ensures extends { Extends table.old table.new }
@@ -76,7 +76,7 @@ pub fn fact(table: &mut Table, rel: Rel, v: u64, w: u64) -> Result<Id, AllocErro
     table.intern(Node::Fact(rel_number(rel), v, w))
 }
 
-/// The proof that an expression equals itself.
+/// Builds the proof that an expression equals itself.
 pub fn reflexive(table: &mut Table, a: Id) -> Result<Id, AllocError>
     requires { IsKnown table.old a }
     ensures known { IfOk result (IsKnown table.new) }
@@ -87,8 +87,8 @@ pub fn reflexive(table: &mut Table, a: Id) -> Result<Id, AllocError>
     rule_term(table, EQ_REFL, &[a])
 }
 
-/// From `a` to `b`, by the proof `equal` that they are, in the formula `form`, whose variable 0 is the
-/// place: the proof of the formula at `b`, by the proof `proof` of it at `a`.
+/// Builds the proof of the formula `form` at `b` from its proof `proof` at `a` and the proof
+/// `equal` that `a` equals `b`. Variable 0 of `form` is the place of `a` and `b`.
 pub fn moved(
     table: &mut Table,
     form: Id,
@@ -113,7 +113,10 @@ pub fn moved(
     rule_term(table, EQ_SUB, &[function, a, b, equal, proof])
 }
 
-/// The proof that `b` equals `a`, by a proof that `a` equals `b`.
+/// Builds the proof that `b` equals `a` from a proof that `a` equals `b`.
+///
+/// Errors: out of memory, also if a variable would reach 2^32, or the limit of `memo` is reached;
+/// each id keeps its tree.
 #[tactic(auto, using(hereditary_subst::proofs::Rows::rows))]
 pub fn swapped(table: &mut Table, memo: &mut Memo, a: Id, b: Id, equal: Id) -> Result<Id, Exhausted>
     requires a { IsKnown table.old a }

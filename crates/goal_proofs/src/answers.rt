@@ -1,21 +1,21 @@
-//! What was found of goals under the same hypotheses.
+//! Cached results of goals under one list of hypotheses.
 
 ghost use Rattle.std.specs.Prelude.{◌≡◌};
 
 use formula_ids::{Kept, Question, number};
 use term_table::Id;
 
-/// What proves goals that have no connective: alignment, normal forms and bounds, and what is said
-/// here.
+/// The proof methods for goals that have no connective: alignment, normal forms and bounds, and
+/// those selected here.
 #[derive(Clone, Copy, PartialEq, Eq, PartialOrd, Ord)]
 pub struct Means {
-    /// Access to memory by hypotheses.
+    /// Whether hypotheses may prove access to memory.
     pub access: bool,
-    /// Lower bounds of differences, whose rule is there where steps are counted.
+    /// Whether lower bounds of differences are used, whose rule exists if steps are counted.
     pub counted: bool,
 }
 
-/// A goal, how many binders stand outside, and by which means a proof was looked for.
+/// A cache key: a goal, how many binders are outside it, and the methods of the search for a proof.
 #[derive(Clone, Copy, PartialEq, Eq, PartialOrd, Ord)]
 pub struct Goal {
     means: Means,
@@ -38,7 +38,7 @@ impl Question for Goal {
     ghost lasts = { λ l t u q o e k h. answer-lasts t u l q o k e h };
 }
 
-/// What was found of goals under the same hypotheses. It counts in the limit of a `Memo`.
+/// Cached results of goals under one list of hypotheses. They count in the limit of a `Memo`.
 pub type Answers = Kept<Goal>;
 
 /// The question of a goal.

@@ -1,7 +1,6 @@
 //! Proofs of goals by their connectives.
 //!
-//! Errors: want of memory alone, which more results than the search may keep are too; each id keeps
-//! its tree.
+//! Errors: out of memory, or the search's limit is reached; each id keeps its tree.
 
 ghost use Rattle.std.specs.Prelude.{◌≡◌, IfOk, IfSome, OnOk};
 ghost use Rattle.term_table.specs.Table.{IsKnown, tree_at, Extends};
@@ -23,12 +22,11 @@ use lf_rules::numbers::{ALL_I, ALLM_I, FF_E, OR_L, OR_R};
 use lf_rules::rule_term;
 use term_table::{Id, Table};
 
-/// The proof of `goal` under the hypotheses of `context` that the class's search by connectives gives
-/// with `leaf` for goals that have none; none where it gives none. What was found of a goal is kept in
-/// its context.
+/// Returns the proof of `goal` under the hypotheses of `context` that the search of `prover_class`
+/// by connectives gives, with `leaf` for goals that have none: None if it gives none. Results for
+/// goals are cached in their contexts.
 ///
-/// Errors: want of memory alone, which more results than `search` may keep are too; each id keeps its
-/// tree.
+/// Errors: out of memory, or the limit of `search` is reached; each id keeps its tree.
 #[cycle(proving)]
 #[tactic(auto, using(crate::proofs::Kept::rows))]
 pub fn goal_proof<L: Leaf>(
@@ -54,8 +52,8 @@ pub fn goal_proof<L: Leaf>(
     keep_answer(table, search, context, leaf.means(), goal, proof)
 }
 
-/// The same of a goal of which nothing is kept: a hypothesis, or what follows from falsity, or by its
-/// shape.
+/// The proof of a goal of which nothing is cached: a hypothesis, or what follows from falsity, or
+/// by its shape.
 #[cycle(proving)]
 #[tactic(auto, using(crate::proofs::Kept::rows))]
 fn unkept_proof<L: Leaf>(
@@ -84,7 +82,7 @@ fn unkept_proof<L: Leaf>(
     proof_by_shape(table, leaf, search, context, goal)
 }
 
-/// The same by the goal's shape.
+/// The proof of a goal by its shape.
 #[cycle(proving)]
 #[tactic(auto, using(crate::proofs::Kept::rows))]
 fn proof_by_shape<L: Leaf>(
@@ -235,11 +233,10 @@ fn proof_for_all<L: Leaf>(
     generalized(table, rule, b, proof)
 }
 
-/// The proof of `goal` under the hypotheses of `context` by connectives and words alone; none where
-/// they give none. `counted` says whether steps are counted.
+/// Returns the proof of `goal` under the hypotheses of `context` by connectives and words alone:
+/// None if they give none. `counted` says whether steps are counted.
 ///
-/// Errors: want of memory alone, which more results than `search` may keep are too; each id keeps its
-/// tree.
+/// Errors: out of memory, or the limit of `search` is reached; each id keeps its tree.
 pub fn proof_without_access(
     table: &mut Table,
     search: &mut Search,

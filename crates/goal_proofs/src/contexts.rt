@@ -11,8 +11,10 @@ use hereditary_subst::Exhausted;
 use hyp_proofs::{add_split, raised_hyps};
 use term_table::{Id, Node, Table};
 
-/// The context under the binder of a quantifier. Fails where the binders outside would be 2^32, and
-/// where memory does.
+/// Returns the context under the binder of a quantifier.
+///
+/// Errors: the binders outside would be 2^32, out of memory, or the limit of `search` is reached;
+/// each id keeps its tree.
 #[tactic(auto, using(crate::proofs::Kept::rows))]
 pub fn under_binder(
     table: &mut Table,
@@ -34,8 +36,9 @@ pub fn under_binder(
     Context::new(table, context.outside + 1, hyps)
 }
 
-/// The context under the hypothesis `a`, which the proof's variable 0 is there. Fails as
-/// `under_binder` does.
+/// Returns the context under the hypothesis `a`, whose proof is variable 0 there.
+///
+/// Errors: as `under_binder`; each id keeps its tree.
 #[tactic(auto, using(crate::proofs::Kept::rows))]
 pub fn under_hypothesis(
     table: &mut Table,

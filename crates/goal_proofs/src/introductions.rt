@@ -1,6 +1,6 @@
 //! Proofs of connectives from proofs of their parts, on ids.
 //!
-//! Errors: want of memory alone; each id keeps its tree.
+//! Errors: out of memory, or the limit of the memo is reached; each id keeps its tree.
 
 ghost use Rattle.std.specs.Prelude.{◌≡◌, [], ◌∷◌, Option, Some, IfOk, IfSome};
 ghost use Rattle.std.specs.Option.{option_map};
@@ -53,8 +53,8 @@ pub(crate) fn both(
     }
 }
 
-/// The proof of a disjunction, by the rule of that number, from that of one of its sides, if there is
-/// one.
+/// The proof of a disjunction, by the rule of that number, from that of one of its sides, if there
+/// is one.
 pub(crate) fn joined(
     table: &mut Table,
     rule: u32,
@@ -106,7 +106,8 @@ pub(crate) fn implied(
     }
 }
 
-/// The proof of a quantifier over `b`, by the rule of that number, from that of `b`, if there is one.
+/// The proof of a quantifier over `b`, by the rule of that number, from that of `b`, if there is
+/// one.
 pub(crate) fn generalized(
     table: &mut Table,
     rule: u32,

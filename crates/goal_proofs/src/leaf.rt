@@ -1,4 +1,4 @@
-//! What proves goals that have no connective.
+//! Provers for goals that have no connective.
 
 ghost use Rattle.std.specs.Prelude.{◌≡◌, IfOk, IfSome, OnOk};
 ghost use Rattle.term_table.specs.Table.{IsKnown, Extends};
@@ -11,7 +11,8 @@ use crate::words::proof_by_words;
 use hereditary_subst::Exhausted;
 use term_table::{Id, Table};
 
-/// What proves goals that have no connective. The search by connectives is the same for each.
+/// A prover for goals that have no connective (atomic goals). The search by connectives works alike
+/// with each.
 pub trait Leaf {
     ghost use Rattle.std.specs.Prelude.{◌≡◌, IfOk, IfSome, OnOk};
     ghost use Rattle.term_table.specs.Table.{IsKnown, Extends};
@@ -22,15 +23,14 @@ pub trait Leaf {
     // By which means.
     ghost by: { Self → Means };
 
-    /// By which means.
+    /// Returns the proof methods that the leaf uses.
     fn means(&self) -> Means
         ensures { result ≡ by self.now };
 
-    /// The proof of a goal that has no connective, under the hypotheses of the context; none of any
-    /// other.
+    /// Returns the proof of a goal that has no connective, under the hypotheses of the context:
+    /// None for any other goal, and if there is no proof.
     ///
-    /// Errors: want of memory alone, which more results than the search may keep are too; each id
-    /// keeps its tree.
+    /// Errors: out of memory, or the limit of `search` is reached; each id keeps its tree.
     fn leaf_proof(
         &self,
         table: &mut Table,

@@ -1,10 +1,10 @@
-//! The search for proofs of easy goals, by connectives and by words, on ids of a table.
+//! Searches for proofs of goals, by their connectives and by arithmetic on words.
 //!
-//! The layer above uses that `goal_proof` answers, for whatever hypotheses and goal the ids stand for,
-//! what the class's search by connectives gives with a `Leaf` for goals that have none
-//! (`prover_class`, `specs/Goals`): a proof as a term, or none; and that `proof_by_words` is such a leaf.
-//! What is found is kept: of all contexts in `Search`, of one in its `Context`. Source: Necula,
-//! Proof-Carrying Code, POPL 1997 (the rules); the search is this project's own.
+//! The layer above uses that `goal_proof` returns a proof term, or None, for the hypotheses and the
+//! goal that the ids stand for. The result is that of the search of `prover_class` by connectives
+//! (`specs/Goals`), with a `Leaf` for goals that have no connective; `proof_by_words` is such a
+//! leaf. Results for all contexts are cached in `Search`, results for one context in its `Context`.
+//! Source: Necula, Proof-Carrying Code, POPL 1997 (the rules); the search is this project's own.
 #![tactic(auto)]
 
 mod answers;

@@ -1,4 +1,4 @@
-//! What is kept while a proof is looked for.
+//! The caches of a proof search.
 
 ghost use Rattle.std.specs.Prelude.{◌≡◌, ◌+◌, ◌*◌, ◌^◌, ◌≤◌, min, IfOk, IfSome, OnOk};
 ghost use Rattle.term_table.specs.Table.{TableView, IsKnown, Extends};
@@ -16,30 +16,30 @@ use normal_forms::PlainForms;
 use sum_proofs::{NormalForms, Occurrences};
 use term_table::{Id, Table};
 
-/// As so many steps a term counts, which are three results: it takes as much time and memory, since more
-/// terms are looked up than made.
+/// As so many steps a term counts, which are three results: it takes as much time and memory, since
+/// more terms are looked up than made.
 const STEPS_A_TERM: u64 = 48;
 
-/// What is kept of all contexts, on one table. All that is kept counts in the limit of the memo, and so
-/// does each term that comes to the table.
+/// The caches for all contexts, on one table. All that is cached counts in the limit of the memo,
+/// and so does each term that is added to the table.
 #[derive(Drop)]
 pub struct Search {
-    /// Results of shifts, and the limit.
+    /// Cached results of shifts, and the limit.
     pub memo: Memo,
     // normal forms alone, and those that were asked for with their proofs
     pub(crate) plain: PlainForms,
     pub(crate) forms: NormalForms,
-    /// What words put into formulas give.
+    /// Cached results of substituting words in formulas.
     pub puts: Puts,
-    /// Where variable 0 stands.
+    /// Cached answers whether variable 0 occurs.
     pub occurrences: Occurrences,
     // how many terms the table had when they were counted last
     counted: u64,
 }
 
 impl Search {
-    /// Nothing yet, which takes no memory. A call that would keep more than `most` results answers
-    /// `Results`; each term that comes to `table` from now on counts as three.
+    /// Returns empty caches, which allocate nothing yet. A call that would cache more than `most`
+    /// results returns `Results`; each term that is added to `table` from now on counts as three.
     pub fn new(table: &Table, most: usize) -> Search
         ensures search { (t : TableView) → IsSearch t result }
         ensures left { left_of result.memo ≡ most }
@@ -56,7 +56,10 @@ impl Search {
         }
     }
 
-    /// Counts steps that keep nothing in the limit of the memo. Fails past it.
+    /// Counts `steps` steps that cache nothing in the limit of the memo: one result for the call,
+    /// and one for each 16 steps.
+    ///
+    /// Errors: `Results` past the limit.
     pub fn spend_steps(&mut self, steps: u64) -> Result<(), Exhausted>
         ensures search { (t : TableView) → IsSearch t self.old → IsSearch t self.new }
         ensures left { Counts (results_of steps) self.old.memo self.new.memo result }
@@ -83,10 +86,10 @@ impl Search {
     }
 }
 
-/// Hypotheses, so many binders outside, and what is kept under them.
+/// Hypotheses under a number of binders, with the caches of what was found under them.
 #[derive(Drop)]
 pub struct Context {
-    /// How many binders stand outside.
+    /// How many binders are outside.
     pub outside: u32,
     /// The hypotheses.
     pub hyps: Hypotheses,
@@ -97,9 +100,9 @@ pub struct Context {
 }
 
 impl Context {
-    /// The hypotheses `hyps`, where `outside` binders stand outside and nothing was asked yet.
+    /// Returns a context of the hypotheses `hyps` under `outside` binders, with empty caches.
     ///
-    /// Errors: want of memory alone; each id keeps its tree.
+    /// Errors: out of memory alone; each id keeps its tree.
     #[tactic(auto, using(crate::proofs::Kept::rows))]
     pub fn new(table: &mut Table, outside: u32, hyps: Hypotheses) -> Result<Context, Exhausted>
         requires { AreKnownHyps table.old hyps }
@@ -119,7 +122,7 @@ impl Context {
         })
     }
 
-    /// What is kept of the goal, searched for by these means.
+    /// The cached result for the goal, searched for by these methods.
     pub(crate) fn found(&self, table: &Table, means: Means, goal: Id) -> Option<Option<Id>>
         requires { IsContext table.now self.now }
         ensures { let c = self.now in
@@ -130,7 +133,7 @@ impl Context {
     }
 }
 
-/// Keeps what was found of the goal, and answers it.
+/// Caches what was found for the goal, and returns it.
 fn keep_row(
     table: &Table,
     search: &mut Search,
@@ -162,8 +165,9 @@ fn keep_row(
     }
 }
 
-/// Keeps what was found of the goal, and answers it; what was made for it is counted. Fails past the
-/// limit of what is kept, and where memory does.
+/// Caches what was found for the goal, and returns it; what was built for it is counted.
+///
+/// Errors: the cache limit is reached, or out of memory.
 pub(crate) fn keep_answer(
     table: &Table,
     search: &mut Search,

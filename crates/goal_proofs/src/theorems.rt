@@ -1,4 +1,4 @@
-//! What holds of the search by connectives, with nothing to run.
+//! Theorems about the search by connectives; their functions run nothing.
 
 ghost use Rattle.std.specs.Prelude.{◌≡◌, ◌≤◌, ℕ, Some, None};
 ghost use Rattle.term_table.specs.Tree.{Tree};
@@ -8,10 +8,10 @@ ghost use Rattle.prover_class.specs.Hypotheses.{Hyps, find_hyp};
 ghost use Rattle.prover_class.specs.Goals.{Prover, absurdity, by_shape, goal_proof, levels};
 ghost use Rattle.goal_proofs.specs.Provers.{whole_proof};
 
-/// The class's search in rounds: what it gives a goal doesn't go by how many rounds are left, where
-/// they are at least its levels. A goal that is a hypothesis has that hypothesis' proof; else where the
-/// hypotheses are absurd it follows from that; else it is proved by its shape, its parts again by whole
-/// searches.
+/// States how the search of `prover_class` proceeds in rounds. Its result for a goal doesn't depend
+/// on the number of remaining rounds if that is at least the goal's levels. A goal that is a
+/// hypothesis has that hypothesis' proof. Else, if the hypotheses are absurd, it follows from
+/// falsity. Else it is proved by its shape, its parts again by whole searches.
 pub fn round_laws()
     ensures enough { (leaf : Prover) (n m out : ℕ) (Γ : Hyps) (A : Form) → levels A ≤ n
         → levels A ≤ m → goal_proof leaf n out Γ A ≡ goal_proof leaf m out Γ A }

@@ -1,7 +1,6 @@
-//! Goals that words alone prove: alignment, normal forms, bounds.
+//! Goals that arithmetic on words proves: alignment, normal forms, bounds.
 //!
-//! Errors: want of memory alone, which more results than the search may keep are too; each id keeps
-//! its tree.
+//! Errors: out of memory, or the search's limit is reached; each id keeps its tree.
 
 ghost use Rattle.std.specs.Prelude.{◌≡◌, IfOk, IfSome, OnOk};
 ghost use Rattle.term_table.specs.Table.{IsKnown, tree_at, Extends, Stands};
@@ -33,7 +32,8 @@ use sum_proofs::{Rewritten, normal_form, proof_by_forms};
 use term_table::{Id, Node, Table};
 use word_ops::{Op, Rel};
 
-/// The proof that `a` is at most `b`, by an upper bound of `a` that is at most a lower bound of `b`.
+/// The proof that `a` is at most `b`, by an upper bound of `a` that is at most a lower bound of
+/// `b`.
 fn at_most_tree(table: &mut Table, a: Id, b: Id, v: Bound, w: Bound) -> Result<Id, AllocError>
     requires a { IsKnown table.old a }
     requires b { IsKnown table.old b }
@@ -72,7 +72,7 @@ fn less_tree(table: &mut Table, a: Id, b: Id, v: Bound, w: Bound) -> Result<Id, 
     rule_term(table, LT_LE, &[a, low, b, first, w.proof])
 }
 
-/// The same proof, where the one bound is at most the other.
+/// The proof that `a` is at most `b` by these bounds, if the upper is at most the lower.
 fn ule_by(table: &mut Table, a: Id, b: Id, v: Bound, w: Bound) -> Result<Option<Id>, Exhausted>
     requires a { IsKnown table.old a }
     requires b { IsKnown table.old b }
@@ -92,7 +92,7 @@ fn ule_by(table: &mut Table, a: Id, b: Id, v: Bound, w: Bound) -> Result<Option<
     }
 }
 
-/// The same proof, where the one bound is less than the other.
+/// The proof that `a` is less than `b` by these bounds, if the upper is less than the lower.
 fn ult_by(table: &mut Table, a: Id, b: Id, v: Bound, w: Bound) -> Result<Option<Id>, Exhausted>
     requires a { IsKnown table.old a }
     requires b { IsKnown table.old b }
@@ -350,11 +350,10 @@ fn by_bounds(
     }
 }
 
-/// The normal form of `e` with the proof that they are equal, where `outside` binders stand outside; it
-/// is kept in `search`.
+/// Returns the normal form of `e`, which is under `outside` binders, with the proof that they are
+/// equal, and caches it in `search`.
 ///
-/// Errors: want of memory alone, which more results than `search` may keep are too; each id keeps its
-/// tree.
+/// Errors: out of memory, or the limit of `search` is reached; each id keeps its tree.
 #[tactic(auto, using(crate::proofs::Kept::rows))]
 pub fn normal(
     table: &mut Table,
@@ -374,10 +373,10 @@ pub fn normal(
     normal_form(table, &mut search.memo, &mut search.forms, outside, e)
 }
 
-/// The normal form of `e` alone, where `outside` binders stand outside; it is kept in `search`.
+/// Returns the normal form alone of `e`, which is under `outside` binders, and caches it in
+/// `search`.
 ///
-/// Errors: want of memory alone, which more results than `search` may keep are too; each id keeps its
-/// tree.
+/// Errors: out of memory, or the limit of `search` is reached; each id keeps its tree.
 #[tactic(auto, using(crate::proofs::Kept::rows))]
 pub fn normal_exp(
     table: &mut Table,
@@ -423,7 +422,8 @@ fn proof_by_normal(
     proof_by_forms(table, &mut search.memo, rel, a, b, p, q)
 }
 
-/// The same proof, which is made where the normal forms alone say that there is one.
+/// The proof of the relation by the normal forms, which is built if the normal forms alone say that
+/// there is one.
 #[tactic(auto, using(crate::proofs::WordRows::rows))]
 fn by_normal(
     table: &mut Table,
@@ -542,12 +542,11 @@ fn relation_by_words(
     }
 }
 
-/// The proof of a goal that words alone prove, under the hypotheses of the context: by alignment, by
-/// normal forms, or by bounds. None where there is none, or the goal has a connective. `counted` says
-/// whether steps are counted.
+/// Returns the proof of a goal that words alone prove, under the hypotheses of the context: by
+/// alignment, by normal forms, or by bounds. Returns None if there is none, or if the goal has a
+/// connective. `counted` says whether steps are counted.
 ///
-/// Errors: want of memory alone, which more results than the search may keep are too; each id keeps
-/// its tree.
+/// Errors: out of memory, or the limit of `search` is reached; each id keeps its tree.
 #[tactic(auto, using(crate::proofs::WordRows::rows))]
 pub fn proof_by_words(
     table: &mut Table,

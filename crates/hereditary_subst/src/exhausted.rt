@@ -1,15 +1,15 @@
-//! What ran out.
+//! The resource that a call ran out of.
 
 ghost use Rattle.std.specs.Prelude.{◌≡◌};
 
 use std::alloc::{AllocError, AllocFailed};
 
-/// What ran out in a call that keeps results: nothing of it says anything of the arguments.
+/// The resource that a caching call ran out of. It says nothing about the call's arguments.
 #[derive(Clone, Copy, Debug, PartialEq, Eq)]
 pub enum Exhausted {
-    /// There was no memory.
+    /// The call ran out of memory.
     Memory,
-    /// More results would have been kept than the memo's limit allows.
+    /// The call would have cached more results than the memo's limit allows.
     Results,
 }
 
@@ -33,7 +33,8 @@ impl<T: Drop> From<AllocFailed<T>> for Exhausted {
     }
 }
 
-/// A call whose one fault is want of memory answers that where its own limit is passed, too.
+/// Converts for a call whose only error is out of memory: it also returns that error past its own
+/// limit.
 impl From<Exhausted> for AllocError {
     fn from(_what: Exhausted) -> AllocError {
         AllocError

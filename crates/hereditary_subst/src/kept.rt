@@ -1,8 +1,8 @@
-//! Results that are kept, so that a part that stands in many places is gone through once.
+//! Cached results, so that a shared subtree is visited once.
 //!
-//! Only results are kept, and that a tree isn't known to be lowered; a missing result ends the call
-//! that asked for it. Rows are found by an ordered map of numbers, so that no choice of ids makes them
-//! slow to find. They are asked for and kept beside the table whose ids they speak of.
+//! Only results are cached, and that a tree isn't known to be lowered; a missing result ends the
+//! call that asked for it. Rows are found by an ordered map of numbers, so that no choice of ids
+//! makes them slow to find. They are kept outside the table whose ids they name.
 
 ghost use Rattle.std.specs.Prelude.{◌≡◌, ◌+◌, IfSome, OnOk};
 ghost use Rattle.term_table.specs.Table.{TableView, IsKnown};
@@ -15,44 +15,45 @@ use std::alloc::Global;
 use std::collections::BTreeMap;
 use term_table::{Id, Table};
 
-/// So many steps that keep nothing count as one result.
+/// How many steps that cache nothing count as one result.
 pub const STEPS_A_RESULT: u64 = 16;
 
-/// What is asked of a tree, by ids and counts.
+/// A cache key: an operation on a tree, by ids and counts.
 #[derive(Clone, Copy, PartialEq, Eq, PartialOrd, Ord)]
 pub(crate) enum Question {
-    /// The third, a tree, with each variable from the second number on raised by the first. What is
-    /// done stands before the tree here and below, so that the rows of one walk stand together.
+    /// Shifts the tree of the third id: each variable from the second number on is raised by the
+    /// first. In each key the arguments come before the tree, so that the rows of one walk are
+    /// neighbours.
     Shift(u64, u64, u64),
-    /// The second, a tree, with the variables past the first number lowered by one, where that one
-    /// doesn't occur.
+    /// Lowers the variables past the first number by one in the tree of the second id, in which the
+    /// variable with that number doesn't occur.
     Lower(u64, u64),
-    /// The first for the variable of the third number, at the type of the fourth, in the second, an
-    /// atomic term.
+    /// Substitutes the first for the variable of the third number, at the type of the fourth, in
+    /// the second, an atomic term.
     Head(u64, u64, u64, u64),
-    /// The same in an abstraction.
+    /// Substitutes, with the arguments of `Head`, in an abstraction.
     Under(u64, u64, u64, u64),
-    /// The same in a type.
+    /// Substitutes, with the arguments of `Head`, in a type.
     Type(u64, u64, u64, u64),
 }
 
-/// What a tree becomes, as it is kept.
+/// A result as it is cached.
 #[derive(Clone, Copy)]
 struct Row {
     term: u64,
     met: Option<u64>,
 }
 
-/// What a tree becomes. Of an atomic term whose head was the variable, also the type that remains; of
-/// a lowering, an id says that the variable may occur.
+/// The result of an operation on a tree. For an atomic term whose head was the variable it also has
+/// the type that remains. For a lowering, an id there says that the variable may occur.
 #[derive(Clone, Copy)]
 pub(crate) struct Atom {
     pub(crate) term: Id,
     pub(crate) met: Option<Id>,
 }
 
-/// Results of shifts and substitutions on one table, up to a limit that results kept elsewhere can
-/// count in too.
+/// Cached results of shifts and substitutions on one table, up to a limit. Results that are cached
+/// elsewhere may count towards the limit too.
 #[derive(Drop)]
 pub struct Memo {
     rows: BTreeMap<Question, Row>,
@@ -105,8 +106,8 @@ fn row_of(term: Id, met: Option<Id>) -> Row
 }
 
 impl Memo {
-    /// A memo without results, which takes no memory yet. A call that would keep more than `left`
-    /// results, with those that `spend` counts, answers `Results`.
+    /// Returns an empty memo, which allocates nothing yet. A call that would cache more than `left`
+    /// results, counting those of `spend`, returns `Results`.
     pub fn new(alloc: Global, left: usize) -> Memo
         ensures memo { (t : TableView) → IsMemo t result }
         ensures left { left_of result ≡ left }
@@ -117,7 +118,9 @@ impl Memo {
         }
     }
 
-    /// Counts a result that is kept elsewhere. Fails past the limit, by `Results`.
+    /// Counts a result that is cached elsewhere.
+    ///
+    /// Errors: `Results` past the limit.
     pub fn spend(&mut self) -> Result<(), Exhausted>
         ensures memo { (t : TableView) → IsMemo t self.old → IsMemo t self.new }
         ensures left { Counts 1 self.old self.new result }
@@ -129,8 +132,9 @@ impl Memo {
         Ok(())
     }
 
-    /// Counts steps that keep nothing: each call as a result, and each 16 steps as another. Fails past
-    /// the limit, by `Results`.
+    /// Counts `steps` steps that cache nothing: one result for the call, and one for each 16 steps.
+    ///
+    /// Errors: `Results` past the limit.
     pub fn spend_steps(&mut self, steps: u64) -> Result<(), Exhausted>
         ensures memo { (t : TableView) → IsMemo t self.old → IsMemo t self.new }
         ensures left { Counts (results_of steps) self.old self.new result }
@@ -143,7 +147,7 @@ impl Memo {
         Ok(())
     }
 
-    /// What is kept of the question, as numbers.
+    /// The cached result for the question, as numbers.
     fn row(&self, table: &Table, question: &Question) -> Option<Row>
         requires { IsMemo table.now self.now }
         ensures { IfSome result (λ a. Says table.now question.now a.term a.met) }
@@ -152,7 +156,7 @@ impl Memo {
         self.rows.get(question).copied()
     }
 
-    /// What is kept of the question.
+    /// The cached result for the question.
     pub(crate) fn find(&self, table: &Table, question: &Question) -> Option<Atom>
         requires { IsMemo table.now self.now }
         ensures { IfSome result (λ a. Says table.now question.now a.term a.met) }
@@ -163,8 +167,9 @@ impl Memo {
         }
     }
 
-    /// Keeps an answer to the question. Fails past the limit, where the table has more than `MOST_TREES`
-    /// trees, and where memory does.
+    /// Caches a result for the question.
+    ///
+    /// Errors: the limit is reached, the table has more than `MOST_TREES` trees, or out of memory.
     pub(crate) fn keep(
         &mut self,
         table: &Table,

@@ -1,13 +1,14 @@
-//! Shifts, hereditary substitution and erasure on the terms and types of a table.
+//! Hereditary substitution, shifts and erasure on the LF terms and types of a table.
 //!
-//! The layer above uses that `subst_type_with` answers the result of hereditary substitution, and None
-//! exactly where there is none; nothing is asked of types. The relation, and the function on trees
-//! that it equals, stand in `term_table` (`specs/Subst`); `specs/Simples` leads from `Simple` and from
-//! an answer to them. Each old id keeps its tree, also where memory fails.
+//! The layer above uses that `subst_type_with` returns the result of hereditary substitution, and
+//! None exactly if there is none. The arguments needn't be well typed. The relation, and the
+//! function on trees that it equals, are in `term_table` (`specs/Subst`); `specs/Simples` relates
+//! `Simple` and the calls' results to them. Each old id keeps its tree, also if a call runs out of
+//! memory.
 //!
-//! No part of a tree is gone through twice: a `Memo` keeps results by entry, depth, argument and type,
-//! and can be handed from call to call on one table. Source: Harper and Licata, Mechanizing Metatheory
-//! in a Logical Framework, JFP 2007, section 2.
+//! No shared subtree is visited twice: a `Memo` caches results by node, depth, argument and type,
+//! and can be passed from call to call on one table. Source: Harper and Licata, Mechanizing
+//! Metatheory in a Logical Framework, JFP 2007, section 2.
 #![tactic(auto)]
 
 mod exhausted;
@@ -30,24 +31,26 @@ use std::alloc::{AllocError, Global};
 use substitute::{subst_at, subst_type_at};
 use term_table::{Id, Node, Table, substitution_laws};
 
-/// How many results a call keeps that is handed no memo.
+/// How many results a call may cache if it is passed no memo.
 pub const MOST_RESULTS: usize = 4_000_000;
 
-/// Once a table has more trees than so many, no call keeps another result of it.
+/// The number of trees of a table above which no call caches another result.
 pub const MOST_TREES: u64 = 1_200_000;
 
-/// The simple type of a type: its families and arrows, without the terms that it speaks of.
+/// A simple type: the families and arrows of an LF type, without the terms in it.
 #[derive(PartialEq, Eq, Debug, Drop)]
 pub enum Simple {
-    /// A family.
+    /// A type family, by its number.
     Base(u32),
-    /// Functions.
+    /// Functions from the first type to the second.
     Arrow(Box<Simple>, Box<Simple>),
 }
 
-/// The tree where `by` more binders stand outside the `from` nearest: each variable from `from` on
-/// is raised by `by`. None exactly where a variable would reach 2^32. Fails only for want of memory,
-/// which more than `MOST_RESULTS` results are too.
+/// Shifts a tree: raises each variable from `from` on by `by`, as if `by` more binders were put
+/// outside the `from` nearest. Returns None exactly if a variable would reach 2^32.
+///
+/// Errors: out of memory, also if more than `MOST_RESULTS` results would be cached; each id keeps
+/// its tree.
 pub fn shift(table: &mut Table, id: Id, by: u32, from: u32) -> Result<Option<Id>, AllocError>
     requires { IsKnown table.old id }
     ensures tree { IfOk result (Stands table.new (shifted by from (tree_at table.old id))) }
@@ -59,7 +62,11 @@ pub fn shift(table: &mut Table, id: Id, by: u32, from: u32) -> Result<Option<Id>
     Ok(shifted)
 }
 
-/// `shift` from the nearest binder on, by up to 2^32.
+/// Raises every free variable of a tree by `by`, which is at most 2^32. Returns None exactly if a
+/// variable would reach 2^32.
+///
+/// Errors: out of memory, also if more than `MOST_RESULTS` results would be cached; each id keeps
+/// its tree.
 pub fn weaken(table: &mut Table, id: Id, by: u64) -> Result<Option<Id>, AllocError>
     requires small { by ≤ 2 ^ 32 }
     requires known { IsKnown table.old id }
@@ -71,7 +78,10 @@ pub fn weaken(table: &mut Table, id: Id, by: u64) -> Result<Option<Id>, AllocErr
     Ok(weakened)
 }
 
-/// `weaken`, with the results that `memo` keeps of earlier calls on the table. The same clauses.
+/// Raises every free variable of a tree by `by`, as `weaken` does, with the cached results of
+/// earlier calls on the table in `memo`.
+///
+/// Errors: out of memory, or the limit of `memo` is reached; each id keeps its tree.
 pub fn weaken_with(
     table: &mut Table,
     memo: &mut Memo,
@@ -106,9 +116,12 @@ fn type_of_simple(table: &mut Table, s: &Simple) -> Result<Id, AllocError>
     }
 }
 
-/// The term `body` with the term `arg` for variable 0, at the simple type `s` of that variable; other
-/// variables are lowered by one. Some exactly where hereditary substitution has a result, and then
-/// that. Fails only for want of memory, which more than `MOST_RESULTS` results are too.
+/// Substitutes the term `arg` for variable 0 in the term `body`, hereditarily, at the simple type
+/// `s` of that variable, and lowers the other variables by one. Returns Some exactly if hereditary
+/// substitution has a result, and then this result.
+///
+/// Errors: out of memory, also if more than `MOST_RESULTS` results would be cached; each id keeps
+/// its tree.
 pub fn subst(table: &mut Table, body: Id, arg: Id, s: &Simple) -> Result<Option<Id>, AllocError>
     requires body { IsKnown table.old body }
     requires arg { IsKnown table.old arg }
@@ -128,7 +141,12 @@ pub fn subst(table: &mut Table, body: Id, arg: Id, s: &Simple) -> Result<Option<
     Ok(put)
 }
 
-/// The same in a type.
+/// Substitutes the term `arg` for variable 0 in the type `body`, hereditarily, at the simple type
+/// `s` of that variable, and lowers the other variables by one. Returns Some exactly if hereditary
+/// substitution has a result, and then this result.
+///
+/// Errors: out of memory, also if more than `MOST_RESULTS` results would be cached; each id keeps
+/// its tree.
 pub fn subst_type(
     table: &mut Table,
     body: Id,
@@ -153,8 +171,10 @@ pub fn subst_type(
     Ok(put)
 }
 
-/// `subst_type` at the simple type of the type `ty`, with the results that `memo` keeps of earlier
-/// calls on the table.
+/// Substitutes the term `arg` for variable 0 in the type `body`, as `subst_type` does, at the
+/// simple type of the type `ty`, with the cached results of earlier calls on the table in `memo`.
+///
+/// Errors: out of memory, or the limit of `memo` is reached; each id keeps its tree.
 pub fn subst_type_with(
     table: &mut Table,
     memo: &mut Memo,
@@ -183,7 +203,9 @@ pub fn subst_type_with(
     subst_type_at(table, memo, body, arg, 0, ty)
 }
 
-/// The simple type of the type `id`; of what is no type, `Base(0)`. Fails only for want of memory.
+/// Returns the simple type of the type `id`; `Base(0)` if `id` isn't a type.
+///
+/// Errors: out of memory.
 pub fn erase(alloc: Global, table: &Table, id: Id) -> Result<Simple, AllocError>
     requires { IsKnown table.now id }
     ensures { IfOk result (λ s. simple_of s ≡ erase (tree_at table.now id)) }

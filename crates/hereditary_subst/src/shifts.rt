@@ -1,4 +1,4 @@
-//! Shifting a tree of a table, and lowering what was shifted.
+//! Shifting a tree of a table, and lowering a shifted tree again.
 
 ghost use Rattle.std.specs.Prelude.{◌≡◌, ◌<◌, ◌≤◌, ◌+◌, ◌^◌, true, false, IfOk, IsTrue, OnOk};
 ghost use Rattle.term_table.specs.Tree.{shifted, Var};
@@ -11,14 +11,17 @@ use crate::exhausted::Exhausted;
 use crate::kept::{Memo, Question, number};
 use term_table::{Id, Node, Table};
 
-/// Of a tree that isn't higher than this, as an equation of two words without parts, no row is
-/// kept: its parts, seven at most, are gone through faster than a row is found. It is counted.
+/// The greatest height of a tree whose result isn't cached, such as an equation of two words
+/// without parts: its parts, seven at most, are visited faster than a row is found. The visit is
+/// counted.
 const MOST_WITHOUT_ROW: u32 = 3;
 
-/// Of a tree that isn't higher than this nothing is counted: it stands in a tree that is.
+/// The greatest height of a tree for which nothing is counted: it is part of a tree that is
+/// counted.
 const MOST_UNCOUNTED: u32 = 2;
 
-/// Whether each of the tree's variables is bound, or among the n next outside: where the table knows.
+/// Returns whether each of the tree's variables is bound or one of the `n` next outside. May return
+/// false if the table doesn't know.
 pub(crate) fn is_within(table: &Table, id: Id, n: u64) -> bool
     requires { IsKnown table.now id }
     ensures { IsTrue result → is_scoped n (tree_at table.now id) ≡ true }
@@ -34,7 +37,8 @@ fn is_low(table: &Table, id: Id, most: u32) -> bool
     table.height(id) <= most
 }
 
-/// Whether x is the furthest variable outside the tree: where the table knows. Then it occurs.
+/// Returns whether `x` is the furthest variable outside the tree, and so occurs in it. May return
+/// false if the table doesn't know.
 fn is_furthest(table: &Table, id: Id, x: u64) -> bool
     requires { IsKnown table.now id }
 {
@@ -84,7 +88,7 @@ pub(crate) fn shift_at(
     Ok(Some(term))
 }
 
-/// The same, by the shifts of its parts.
+/// Shifts the tree by shifting its parts.
 #[cycle(shifting)]
 #[tactic(auto, using(crate::proofs::Rows::rows))]
 fn shift_parts(
@@ -125,7 +129,7 @@ fn shift_parts(
     }
 }
 
-/// The same for the variable n.
+/// Shifts the variable `n`.
 fn shift_variable(
     table: &mut Table,
     id: Id,
@@ -148,7 +152,7 @@ fn shift_variable(
     }
 }
 
-/// The same for a type.
+/// Shifts a type by shifting its parts.
 #[cycle(shifting)]
 #[tactic(auto, using(crate::proofs::Rows::rows))]
 fn shift_type_parts(
@@ -191,8 +195,8 @@ fn shift_type_parts(
     }
 }
 
-/// The tree that becomes this one where one more binder stands outside the x nearest; None says
-/// nothing. It is found where the variable x doesn't occur.
+/// Returns the tree that becomes this one if one more binder is put outside the `x` nearest; None
+/// says nothing. It is found if the variable `x` doesn't occur.
 #[cycle(lowering)]
 #[tactic(auto, using(crate::proofs::Rows::rows))]
 pub(crate) fn lower_at(
@@ -237,7 +241,7 @@ pub(crate) fn lower_at(
     Ok(Some(term))
 }
 
-/// The same, by its parts.
+/// Lowers the tree by lowering its parts.
 #[cycle(lowering)]
 #[tactic(auto, using(crate::proofs::Rows::rows))]
 fn lower_parts(table: &mut Table, memo: &mut Memo, id: Id, x: u64) -> Result<Option<Id>, Exhausted>
@@ -271,7 +275,7 @@ fn lower_parts(table: &mut Table, memo: &mut Memo, id: Id, x: u64) -> Result<Opt
     }
 }
 
-/// The same for the variable n.
+/// Lowers the variable `n`.
 fn lower_variable(table: &mut Table, id: Id, n: u32, x: u64) -> Result<Option<Id>, Exhausted>
     requires known { IsKnown table.old id }
     requires is { Var n ≡ tree_at table.old id }
@@ -287,7 +291,7 @@ fn lower_variable(table: &mut Table, id: Id, n: u32, x: u64) -> Result<Option<Id
     Ok(Some(table.intern(Node::Var(n - 1))?))
 }
 
-/// The same for a type.
+/// Lowers a type by lowering its parts.
 #[cycle(lowering)]
 #[tactic(auto, using(crate::proofs::Rows::rows))]
 fn lower_type_parts(

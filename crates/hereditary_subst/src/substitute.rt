@@ -1,6 +1,6 @@
-//! Substitution, by what an atomic term's head is: with a term for the variable at its head it goes
-//! on at the simple type that remains, and with another head it is put together again. A simple type
-//! goes by the id of a type that erases to it.
+//! Hereditary substitution, by the head of an atomic term. If the head is the variable, it goes on
+//! at the simple type that remains; with another head the term is rebuilt. A simple type is passed
+//! as the id of a type that erases to it.
 
 ghost use Rattle.std.specs.Prelude.{◌≡◌, ◌<◌, ◌≤◌, ◌+◌, ◌^◌, IfOk, IsTrue, true, OnOk};
 ghost use Rattle.term_table.specs.Tree.{App, Lam, Pi, Var};
@@ -16,7 +16,8 @@ use crate::kept::{Atom, Memo, Question, number};
 use crate::shifts::{lower_at, shift_at};
 use term_table::{Id, Node, Table};
 
-/// Whether r is canonical and m can be raised under all its binders: where the table knows.
+/// Returns whether `r` is canonical and `m` can be raised under all its binders. May return false
+/// if the table doesn't know.
 fn is_ready(table: &Table, m: Id, r: Id) -> bool
     requires m { IsKnown table.now m }
     requires r { IsKnown table.now r }
@@ -35,7 +36,7 @@ fn is_ready(table: &Table, m: Id, r: Id) -> bool
     true
 }
 
-/// The tree without the variable x, which doesn't occur in it: where that is found.
+/// Returns the tree without the variable `x`, if it is found that `x` doesn't occur in it.
 #[tactic(auto, using(crate::proofs::Rows::rows))]
 fn spare_at(
     table: &mut Table,
@@ -93,7 +94,7 @@ pub(crate) fn subst_at(
     }
 }
 
-/// The same for the abstraction of b.
+/// Substitutes in the abstraction of `b`.
 #[cycle(substitute)]
 #[tactic(auto, using(crate::proofs::Rows::rows))]
 fn subst_under(
@@ -167,7 +168,7 @@ fn head_at(
     }
 }
 
-/// The same for the variable n.
+/// Substitutes in the variable `n`.
 fn head_variable(
     table: &mut Table,
     id: Id,
@@ -199,7 +200,7 @@ fn head_variable(
     Ok(Some(Atom { term, met: None }))
 }
 
-/// The same for the application of f to a: what is kept, or by its parts.
+/// Substitutes in the application of `f` to `a`: returns the cached result, or goes by the parts.
 #[cycle(substitute)]
 #[tactic(auto, using(crate::proofs::Rows::rows))]
 fn head_kept(
@@ -241,7 +242,7 @@ fn head_kept(
     }
 }
 
-/// The same for the application of f to a, by its parts.
+/// Substitutes in the application of `f` to `a`, by the parts.
 #[cycle(substitute)]
 #[tactic(auto, using(crate::proofs::Rows::rows))]
 fn head_parts(
@@ -365,7 +366,7 @@ pub(crate) fn subst_type_at(
     Ok(Some(term))
 }
 
-/// The same, by its parts.
+/// Substitutes in the type, by its parts.
 #[cycle(typed)]
 #[tactic(auto, using(crate::proofs::Rows::rows))]
 fn subst_type_parts(
@@ -402,7 +403,7 @@ fn subst_type_parts(
     }
 }
 
-/// The same for the product from a to b.
+/// Substitutes in the product from `a` to `b`.
 #[cycle(typed)]
 #[tactic(auto, using(crate::proofs::Rows::rows))]
 fn subst_product(

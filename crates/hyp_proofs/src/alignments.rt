@@ -1,7 +1,6 @@
 //! Proofs that expressions are multiples of 8.
 //!
-//! Errors: want of memory alone, which more results than the memo may keep are too; each id keeps
-//! its tree.
+//! Errors: out of memory, or the limit of the memo is reached; each id keeps its tree.
 
 ghost use Rattle.std.specs.Prelude.{◌≡◌, IfOk, IfSome, OnOk};
 ghost use Rattle.term_table.specs.Table.{IsKnown, tree_at, Extends, Stands};
@@ -30,7 +29,7 @@ use std::alloc::AllocError;
 use term_table::{Id, Node, Table};
 use word_ops::{Op, Rel};
 
-/// The expression that is asked about, whether it is a multiple of 8.
+/// A cache key: an expression that may be a multiple of 8.
 #[derive(Clone, Copy, PartialEq, Eq, PartialOrd, Ord)]
 pub struct Aligned {
     exp: u64,
@@ -50,7 +49,8 @@ impl Question for Aligned {
     ghost lasts = { λ l t u q o e k h. alignment-lasts t u l q.exp o k e h };
 }
 
-/// What was found of expressions under the same hypotheses. It counts in the limit of a `Memo`.
+/// Cached answers whether expressions are multiples of 8, under one list of hypotheses. They count
+/// in the limit of a `Memo`.
 pub type Alignments = Kept<Aligned>;
 
 /// The id as a question.
@@ -60,7 +60,7 @@ fn question_of(e: Id) -> Aligned
     Aligned { exp: number(e) }
 }
 
-/// That the expression is a multiple of 8: `(eq (band e 7) 0)`.
+/// The formula that the expression is a multiple of 8: `(eq (band e 7) 0)`.
 fn aligned_form(table: &mut Table, e: Id) -> Result<Id, AllocError>
     requires { IsKnown table.old e }
     ensures known { IfOk result (IsKnown table.new) }
@@ -74,7 +74,7 @@ fn aligned_form(table: &mut Table, e: Id) -> Result<Id, AllocError>
     relation(table, Rel::Eq, left, zero)
 }
 
-/// That the expression equals a word, which is the variable 0 under a binder.
+/// The formula that the expression equals a word, which is the variable 0 under a binder.
 #[tactic(auto, using(hereditary_subst::proofs::Rows::rows))]
 fn equal_place(table: &mut Table, memo: &mut Memo, e: Id) -> Result<Id, Exhausted>
     requires e { IsKnown table.old e }
@@ -91,7 +91,7 @@ fn equal_place(table: &mut Table, memo: &mut Memo, e: Id) -> Result<Id, Exhauste
     Ok(form)
 }
 
-/// From (eq e e) to (eq e (band a inner)), where e is `whole`: (band (band a word) 7).
+/// From (eq e e) to (eq e (band a inner)); e is `whole`: (band (band a word) 7).
 #[tactic(auto, using(hereditary_subst::proofs::Rows::rows))]
 fn masked_first(
     table: &mut Table,
@@ -279,11 +279,11 @@ fn alignment_of_mask(
     }
 }
 
-/// The proof that the expression `e` is a multiple of 8 by what stands at its head, the same of its
-/// parts also by `hyps`; none where the class gives none. What was found is kept in `kept`.
+/// Returns the proof that the expression `e` is a multiple of 8 by its head; its parts are proved
+/// multiples of 8 by their heads or by `hyps`. Returns None if `prover_class` gives no proof.
+/// `kept` has the cached answers.
 ///
-/// Errors: want of memory alone, which more results than `memo` may keep are too; each id keeps its
-/// tree.
+/// Errors: out of memory, or the limit of `memo` is reached; each id keeps its tree.
 #[cycle(aligning)]
 #[tactic(auto, using(crate::proofs::AlignmentRows::rows))]
 pub fn alignment_proof(
@@ -318,7 +318,7 @@ pub fn alignment_proof(
     }
 }
 
-/// The same, by what stands at the expression's head.
+/// The proof that the expression `e` is a multiple of 8 by its head, if none is cached.
 #[cycle(aligning)]
 #[tactic(auto, using(crate::proofs::AlignmentRows::rows))]
 fn unkept_alignment(

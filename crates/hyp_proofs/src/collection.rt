@@ -1,4 +1,4 @@
-//! Hypotheses in order, with an index by their formulas.
+//! A list of hypotheses, with an index by their formulas.
 
 ghost use Rattle.std.specs.Prelude.{◌≡◌, [], ◌∷◌, ◌++◌, OnOk};
 ghost use Rattle.hyp_proofs.specs.Places.{first_hyp_proof};
@@ -24,7 +24,7 @@ pub(crate) fn key_of(form: Id) -> Key
     }
 }
 
-/// Hypotheses in order. The first with a given formula is found without a search.
+/// A list of hypotheses. The first with a given formula is found without a search.
 #[derive(Drop)]
 pub struct Hypotheses {
     list: Vec<Hypothesis>,
@@ -49,7 +49,7 @@ impl Model for Hypotheses {
 }
 
 impl Hypotheses {
-    /// No hypotheses, which take no memory yet.
+    /// Returns an empty list, which allocates nothing yet.
     pub fn new(alloc: Global) -> Hypotheses
         ensures { result ≡ [] }
     {
@@ -59,23 +59,23 @@ impl Hypotheses {
         }
     }
 
-    /// The hypotheses, the first first.
+    /// Returns the hypotheses, in order.
     pub fn as_slice(&self) -> &[Hypothesis]
         ensures { result.now ≡ self.now }
     {
         self.list.as_slice()
     }
 
-    /// The proof of the first hypothesis with this id as its formula.
+    /// Returns the proof of the first hypothesis whose formula has this id, if there is one.
     pub fn find(&self, form: Id) -> Option<Id>
         ensures { result ≡ first_hyp_proof self.now form }
     {
         self.proofs.get(&key_of(form)).copied()
     }
 
-    /// Puts one more hypothesis at the end.
+    /// Appends a hypothesis.
     ///
-    /// Errors: want of memory alone.
+    /// Errors: out of memory alone.
     pub fn push(&mut self, hypothesis: Hypothesis) -> Result<(), AllocError>
         ensures { OnOk result (self.new ≡ self.old ++ hypothesis ∷ []) }
     {

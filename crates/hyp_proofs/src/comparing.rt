@@ -1,7 +1,8 @@
-//! What a comparison, or its denial, is split into.
+//! What a hypothesis about a comparison, or its denial, is split into.
 //!
-//! A test of two expressions gives 1 or 0, so that its comparison with 0 says whether its relation
-//! holds. Where its first expression is a test and its second is 0 again, the same goes on.
+//! A compare instruction gives 1 or 0, so comparing its result with 0 says whether its relation
+//! holds. If the relation's first expression is again such a result and its second is 0, the
+//! splitting goes on.
 
 ghost use Rattle.std.specs.Prelude.{◌≡◌, ◌+◌, ◌≤◌, [], ◌∷◌, IfOk, IfSome, OnOk, not, IsTrue, ◌↔◌};
 ghost use Rattle.term_table.specs.Table.{IsKnown, tree_at, Extends};
@@ -144,7 +145,7 @@ pub(crate) fn add_comparison(
     add_others(table, hyps, holds, rel, a, b, proof)
 }
 
-/// Adds what the comparison is split into beside itself.
+/// Adds what the comparison is split into in addition to itself.
 #[cycle(comparing)]
 #[tactic(auto, using(crate::proofs::Growing::rows))]
 fn add_others(
@@ -186,7 +187,7 @@ fn add_others(
     }
 }
 
-/// Adds what is split off where the expression is 0, or where it isn't.
+/// Adds what is split off if the expression is 0, or if it isn't.
 #[cycle(comparing)]
 #[tactic(auto, using(crate::proofs::Growing::rows))]
 fn add_tested(

@@ -1,4 +1,4 @@
-//! Hypotheses found by their formulas.
+//! Looks up hypotheses by their formulas.
 
 ghost use Rattle.std.specs.Prelude.{◌≡◌, [], ◌∷◌, IfSome, OnOk};
 ghost use Rattle.term_table.specs.Table.{IsKnown, tree_at, Stands};
@@ -12,7 +12,7 @@ use formula_ids::Hypothesis;
 use std::alloc::AllocError;
 use term_table::{Id, Table};
 
-/// The proof of the first hypothesis that is the formula.
+/// Returns the proof of the first hypothesis that is the formula, if there is one.
 pub fn find_hyp(table: &Table, hyps: &Hypotheses, goal: Id) -> Option<Id>
     requires hyps { AreKnownHyps table.now hyps.now }
     requires goal { IsKnown table.now goal }

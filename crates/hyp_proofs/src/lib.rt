@@ -1,10 +1,10 @@
-//! Hypotheses with their proofs, on ids of a table.
+//! The prover's hypotheses with their proofs: looked up, split, raised and refuted.
 //!
-//! The layer above uses that each function answers what the class's definition of its name
-//! gives (`prover_class`, `specs/Hypotheses` and `specs/Goals`) for the formulas and proofs that the ids
-//! stand for. The first hypothesis with a given formula is found without a search, and what a shared
-//! conjunction is split into is gone through once. That an expression is a multiple of 8, its parts
-//! also by hypotheses, is found once for each (`alignment_proof`).
+//! The layer above uses that each function returns what the definition of its name in
+//! `prover_class` (`specs/Hypotheses` and `specs/Goals`) gives for the formulas and proofs that the
+//! ids stand for. The first hypothesis with a given formula is found without a search, and a shared
+//! conjunction is split once. Whether an expression is a multiple of 8 is found once for each
+//! expression (`alignment_proof`); for its parts hypotheses count too.
 #![tactic(auto)]
 
 mod alignments;

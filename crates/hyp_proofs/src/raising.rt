@@ -15,8 +15,8 @@ use formula_ids::{Hypothesis, raised};
 use hereditary_subst::{Exhausted, Memo};
 use term_table::{Id, Table};
 
-/// Puts a hypothesis at the end, under one more binder. It counts as a result, also where its parts
-/// were raised before.
+/// Appends a hypothesis under one more binder. It counts as a result, also if its parts were raised
+/// before.
 #[tactic(auto, using(crate::proofs::Growing::rows))]
 fn push_raised(
     table: &mut Table,
@@ -43,10 +43,10 @@ fn push_raised(
     Ok(under.push(Hypothesis { form, proof })?)
 }
 
-/// The hypotheses under one more binder.
+/// Returns the hypotheses under one more binder: each free variable is raised by one.
 ///
-/// Errors: want of memory alone, which a variable that would reach 2^32 and more results than the memo
-/// may keep, with one for each hypothesis, are too; each id keeps its tree.
+/// Errors: out of memory, also if a variable would reach 2^32, or the limit of `memo` is reached,
+/// in which each hypothesis counts one; each id keeps its tree.
 pub fn raised_hyps(
     table: &mut Table,
     memo: &mut Memo,

@@ -1,4 +1,4 @@
-//! Falsity from hypotheses.
+//! Proves falsity from hypotheses.
 
 ghost use Rattle.std.specs.Prelude.{◌≡◌, [], ◌∷◌, IfOk, IfSome};
 ghost use Rattle.term_table.specs.Table.{IsKnown, tree_at, Extends, Stands};
@@ -28,7 +28,7 @@ struct Refutation {
     proof: Id,
 }
 
-/// What the hypothesis says to lead to falsity, where it is a hypothesis too.
+/// What the hypothesis says to lead to falsity, if it is a hypothesis too.
 fn refute_by(table: &Table, hyps: &Hypotheses, form: Id, denial: Id) -> Option<Refutation>
     requires hyps { AreKnownHyps table.now hyps.now }
     requires form { IsKnown table.now form }
@@ -93,9 +93,10 @@ fn contradiction(table: &mut Table, falsity: Id, refutation: Refutation) -> Resu
     )
 }
 
-/// A proof of falsity: a hypothesis, or the first refutation.
+/// Returns a proof of falsity, if there is one: a hypothesis that is falsity, or the first
+/// refutation.
 ///
-/// Errors: want of memory alone; each id keeps its tree.
+/// Errors: out of memory alone; each id keeps its tree.
 #[tactic(auto, using(crate::proofs::Growing::rows))]
 pub fn absurdity(table: &mut Table, hyps: &Hypotheses) -> Result<Option<Id>, AllocError>
     requires { AreKnownHyps table.old hyps.now }

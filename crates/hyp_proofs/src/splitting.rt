@@ -1,4 +1,4 @@
-//! What a hypothesis is split into.
+//! Splits a hypothesis into parts.
 
 ghost use Rattle.std.specs.Prelude.{◌≡◌, ◌<◌, [], ◌∷◌, IfOk, IfSome, OnOk};
 ghost use Rattle.term_table.specs.Table.{IsKnown, tree_at, Extends};
@@ -131,7 +131,7 @@ fn add_parts(
     }
 }
 
-/// The same of a conjunction, which is gone through once.
+/// Adds what a conjunction is split into, and visits it only once.
 #[cycle(splitting)]
 #[tactic(auto, using(crate::proofs::Growing::rows))]
 fn add_both(
@@ -169,11 +169,10 @@ fn add_both(
     Ok(())
 }
 
-/// Adds what the formula, which `proof` proves, is split into, at the end and in order, without what
-/// is a hypothesis already.
+/// Appends the hypotheses that the formula, which `proof` proves, is split into, in order. Leaves
+/// out those that are already hypotheses.
 ///
-/// Errors: want of memory alone, after which the hypotheses may have some of the members; each id
-/// keeps its tree.
+/// Errors: out of memory alone; then some of them may have been appended. Each id keeps its tree.
 pub fn add_split(
     table: &mut Table,
     hyps: &mut Hypotheses,

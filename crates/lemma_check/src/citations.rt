@@ -1,4 +1,4 @@
-//! Which lemmas the trees of a table cite.
+//! Finds which lemmas the trees of a table cite.
 
 ghost use Rattle.std.specs.Prelude.{◌≡◌, suc, ◌<◌, ◌+◌, ◌^◌, length, map, IfOk};
 ghost use Rattle.term_table.specs.Table.{PartsBelow};
@@ -62,11 +62,11 @@ fn late_from(bounds: &[u64], lemmas: &[(Id, Id)], from: u32) -> Option<u32>
     }
 }
 
-/// The number of the first lemma whose proof cites itself or a later one: None where there is none.
-/// A lemma is the id of its formula and of its proof, fewer than 2^32 of them. It goes through the
-/// table once, and without lemmas not at all.
+/// Returns the number of the first lemma whose proof cites itself or a later lemma: None if there
+/// is none. A lemma is the id of its formula and of its proof; there are fewer than 2^32. Goes
+/// through the table once, and not at all if there are no lemmas.
 ///
-/// Errors: want of memory alone.
+/// Errors: out of memory alone.
 pub fn first_late(
     alloc: Global,
     table: &Table,

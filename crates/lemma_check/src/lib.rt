@@ -1,11 +1,11 @@
-//! Lemmas checked one by one, each with those before it.
+//! Checks the lemmas of a proof, each with the lemmas before it.
 //!
-//! The layers above use that the first lemma is found whose formula or whose proof doesn't check
-//! ([`first_failing`]), the first whose proof cites itself or a later one ([`first_late`]) and the
-//! first whose proof doesn't check with those before it ([`first_unproved`]), and what the answers
-//! mean (`laws`). One signature with all lemmas serves the proofs of all, and so does what is kept
-//! of it: a proof that checks over it and cites the lemmas below a number alone is one that checks
-//! with these. The lemmas are those of `lf_lemmas`.
+//! The layers above use three searches and what their results mean (`laws`). [`first_failing`]
+//! finds the first lemma whose formula or whose proof doesn't check. [`first_late`] finds the first
+//! whose proof cites itself or a later lemma. [`first_unproved`] finds the first whose proof
+//! doesn't check with those before it. One signature with all lemmas serves all proofs, and so do
+//! the results cached over it: a proof checks with the lemmas below a number exactly if it checks
+//! over that signature and cites those lemmas alone. The lemmas are those of `lf_lemmas`.
 //!
 //! Source: Appel and Felty, Lightweight Lemmas in Lambda Prolog, ICLP 1999.
 #![tactic(auto)]

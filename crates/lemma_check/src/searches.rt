@@ -1,4 +1,4 @@
-//! The first lemma whose formula or proof doesn't check.
+//! Finds the first lemma whose formula or proof doesn't check.
 
 ghost use Rattle.std.specs.Prelude.{◌≡◌, ◌<◌, ◌+◌, ◌^◌, [], length, IfOk};
 ghost use Rattle.term_table.specs.Table.{IsKnown, tree_at, Extends};
@@ -33,12 +33,12 @@ fn checks<S: Signature>(
     check_term_with(table, kept, sig, &[], term, a)
 }
 
-/// What is asked of a lemma.
+/// The test of a lemma.
 #[derive(Clone, Copy, Debug, PartialEq, Eq)]
 pub enum Asked {
-    /// Whether its formula checks at the type of formulas.
+    /// Its formula checks against the type of formulas.
     Formula,
-    /// Whether its proof checks at the type of the proofs of its formula.
+    /// Its proof checks against the type of the proofs of its formula.
     Proof,
 }
 
@@ -102,12 +102,13 @@ fn failing_from<S: Signature>(
     }
 }
 
-/// The number of the first lemma of which it isn't so over `sig`: None where it is so of each. A
-/// lemma is the id of its formula and of its proof, fewer than 2^32 of them. Over a signature with
-/// these lemmas all count in each proof; that one cites itself or a later one is `first_late`'s
-/// question. `kept` has what earlier calls on the table over the signature kept.
+/// Returns the number of the first lemma that fails the test `asked` over `sig`: None if each
+/// passes. A lemma is the id of its formula and of its proof; there are fewer than 2^32. Over a
+/// signature with these lemmas each proof may cite all of them; `first_late` finds one that cites
+/// itself or a later lemma. `kept` has the cached results of earlier calls on the table over the
+/// signature.
 ///
-/// Errors: want of memory, and `Exhausted::Results` past the limit of `kept`; each id keeps its
+/// Errors: out of memory, and `Exhausted::Results` past the limit of `kept`; each id keeps its
 /// tree.
 pub fn first_failing<S: Signature>(
     table: &mut Table,

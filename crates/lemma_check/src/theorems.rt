@@ -1,4 +1,4 @@
-//! What the searches mean, with nothing to run.
+//! Theorems about the searches' results; their functions run nothing.
 
 ghost use Rattle.std.specs.Prelude.{◌≡◌, ◌↔◌, ℕ, Bool, true, Option, Some, None, List, [], take};
 ghost use Rattle.term_table.specs.Tree.{Tree, Const};
@@ -14,13 +14,14 @@ ghost use Rattle.lemma_check.specs.First.{first_failing, passes, cites_before, p
 ghost use Rattle.lemma_check.specs.First.{IsFirst};
 ghost use Rattle.lemma_check.specs.declared.searches.Asked.TheVariants.{Formula, Proof};
 
-/// A number that is found is that of the first lemma that fails the test (`first`), and none is
-/// found exactly where all formulas check at the type of formulas (`formulas`), all proofs at the
-/// proofs of their formulas (`proofs`), or all proofs cite lemmas before them alone (`citations`).
-/// Where all formulas do, the table holds the lemmas for a signature with them, also when it has
-/// grown (`holds`). The tests are those of typing (`is_formula`, `is_proof`). Each proof is tested
-/// with the lemmas before it (`unproved`, `is_proof_before`), and what is kept over a signature
-/// without lemmas is right with them (`kept`).
+/// States what the searches' results mean. A number that is found is the number of the first lemma
+/// that fails the test (`first`). None is found exactly if all formulas check against the type of
+/// formulas (`formulas`), all proofs against the proofs of their formulas (`proofs`), or all proofs
+/// cite earlier lemmas alone (`citations`). If all formulas check, the table holds the lemmas for a
+/// signature with them, also after it has grown (`holds`). The tests are those of typing
+/// (`is_formula`, `is_proof`). Each proof is tested with the lemmas before it (`unproved`,
+/// `is_proof_before`), and results cached over a signature without lemmas are right with them
+/// (`kept`).
 pub fn laws()
     ensures first { (test : ℕ → Tree × Tree → Bool) (lemmas : List (Tree × Tree)) (n : ℕ) →
         first_failing test 0 lemmas ≡ Some n → IsFirst test lemmas n }

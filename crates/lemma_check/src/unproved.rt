@@ -1,4 +1,4 @@
-//! The first lemma whose proof doesn't check with the lemmas before it.
+//! Finds the first lemma whose proof doesn't check with the lemmas before it.
 
 ghost use Rattle.std.specs.Prelude.{◌≡◌, ◌<◌, ◌^◌, ℕ, Bool, List, length, IfOk};
 ghost use Rattle.term_table.specs.Tree.{Tree};
@@ -17,8 +17,8 @@ use lf_signature::Signature;
 use std::alloc::Global;
 use term_table::{Id, Table};
 
-/// The first lemma whose proof doesn't check over `sig` or cites itself or a later one, where
-/// `late` is the first that does the latter.
+/// The first lemma whose proof doesn't check over `sig`, or cites itself or a later one; `late` is
+/// the first that does the latter.
 fn failing_or_late<S: Signature>(
     table: &mut Table,
     kept: &mut Kept,
@@ -49,12 +49,13 @@ fn failing_or_late<S: Signature>(
     }
 }
 
-/// The number of the first lemma whose proof doesn't check with the lemmas before it: None where
-/// that of each does. A lemma is the id of its formula and of its proof, fewer than 2^32 of them,
-/// and each formula is one over `sig`, which has no lemmas. `kept` has what earlier calls on the
-/// table over `sig` kept, and then what is right over the signature with these lemmas.
+/// Returns the number of the first lemma whose proof doesn't check with the lemmas before it: None
+/// if each proof does. A lemma is the id of its formula and of its proof; there are fewer than
+/// 2^32. Each formula is a formula over `sig`, which has no lemmas. `kept` has the cached results
+/// of earlier calls on the table over `sig`, and after the call results that are right over the
+/// signature with these lemmas.
 ///
-/// Errors: want of memory, and `Exhausted::Results` past the limit of `kept`; each id keeps its
+/// Errors: out of memory, and `Exhausted::Results` past the limit of `kept`; each id keeps its
 /// tree.
 pub fn first_unproved<S: Signature>(
     alloc: Global,

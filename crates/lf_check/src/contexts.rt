@@ -14,7 +14,7 @@ use lf_signature::Signature;
 use std::alloc::AllocError;
 use term_table::{Id, Node, Table};
 
-/// The context of a list whose nearest type stands last.
+/// The context of a list whose nearest type is last.
 fn context_at(table: &mut Table, ctx: &[Id]) -> Result<Id, AllocError>
     requires { AllKnown table.old ctx.now }
     ensures types { IfOk result (IsContextId table.new (ctx_of table.old ctx.now)) }
@@ -27,7 +27,7 @@ fn context_at(table: &mut Table, ctx: &[Id]) -> Result<Id, AllocError>
     Ok(c)
 }
 
-/// The same, with what was kept before.
+/// The context of a list whose nearest type is last, with the cached results.
 pub(crate) fn context_on<S: Signature>(
     table: &mut Table,
     kept: &Kept,
@@ -46,8 +46,8 @@ pub(crate) fn context_on<S: Signature>(
     context_at(table, ctx)
 }
 
-/// The type of the variable n. Each step along the context is counted, so that the charge is for what
-/// is walked, whatever number a variable has.
+/// The type of the variable n. Each step along the context is counted, so that the charge is for
+/// what is walked, whatever number a variable has.
 pub(crate) fn type_at<S: Signature>(
     table: &Table,
     kept: &mut Kept,
@@ -72,7 +72,7 @@ pub(crate) fn type_at<S: Signature>(
     }
 }
 
-/// Whether the two contexts give each variable of the set the same type.
+/// Whether the two contexts give each variable of the set equal types.
 #[cycle(agreeing)]
 fn agree_on<S: Signature>(
     table: &Table,
@@ -99,8 +99,8 @@ fn agree_on<S: Signature>(
     agree_past(table, kept, sig, c, d, gap, rest)
 }
 
-/// Whether they give the variable `gap`, and those past it that are in `rest`, the same type. Each
-/// step along the contexts is counted.
+/// Whether the two contexts give the variable `gap`, and those past it that are in `rest`, equal
+/// types. Each step along the contexts is counted.
 #[cycle(agreeing)]
 fn agree_past<S: Signature>(
     table: &Table,
@@ -140,7 +140,7 @@ fn agree_past<S: Signature>(
     agree_on(table, kept, sig, p, q, rest)
 }
 
-/// Whether the two contexts give each variable that the tree uses the same type: where that is found.
+/// Whether it is found that the two contexts give each variable that the tree uses equal types.
 fn is_alike<S: Signature>(
     table: &mut Table,
     kept: &mut Kept,
@@ -167,8 +167,8 @@ fn is_alike<S: Signature>(
     agree_on(table, kept, sig, c, d, uses)
 }
 
-/// What is kept of the question on the tree `m`, where it was found in a context that gives each
-/// variable that `m` uses the same type as `c` does.
+/// The cached answer to the question on the tree `m`, if it was found in a context that gives each
+/// variable that `m` uses the type that `c` does.
 pub(crate) fn answer_on<S: Signature>(
     table: &mut Table,
     kept: &mut Kept,

@@ -1,4 +1,5 @@
-//! Types, of the four families that there are: 0 to 2 are types, and 3 is one at a formula.
+//! Well-formed types, of the four families that there are: 0 to 2 are types, and 3 is a type once
+//! it is applied to a formula.
 
 ghost use Rattle.std.specs.Prelude.{◌≡◌, ◌<◌, IfOk};
 ghost use Rattle.term_table.specs.Tree.{Pi};

@@ -1,5 +1,5 @@
-//! Applications of a rule that introduces a quantifier, as `all_i`: to an abstraction, and to a proof
-//! of its body.
+//! Applications of a rule that introduces a quantifier, as `all_i`: to an abstraction, and to a
+//! proof of its body.
 //!
 //! What such an application synthesises is made of the ids of the abstraction and of its body. By
 //! the rule of applications alone the body would be raised past the later parameters of the rule's
@@ -39,7 +39,7 @@ pub(crate) struct Rule {
     quantifier: Id,
 }
 
-/// What an application asks of its arguments, as types, and the type that it has then.
+/// The types that an application requires of its arguments, and the type that it then has.
 #[derive(Clone, Copy)]
 pub(crate) struct Introduction {
     pub(crate) predicate: Id,
@@ -137,7 +137,7 @@ fn conclusion_of(table: &Table, id: Id) -> Option<(Id, Id)>
     None
 }
 
-/// The parts of the type, where it is that of a rule that introduces a quantifier.
+/// The parts of the type, if it is that of a rule that introduces a quantifier.
 fn rule_of(table: &Table, declared: Id) -> Option<Rule>
     requires { IsKnown table.now declared }
     ensures { IfSome result (IsIntroductionRule table.now (tree_at table.now declared)) }
@@ -187,8 +187,8 @@ fn is_ready(table: &Table, m: Id, predicate: Id) -> bool
     true
 }
 
-/// The rule that `f` applies to an abstraction, the abstraction, and its body; None where it is no rule
-/// that introduces a quantifier, or applied to another term.
+/// The rule that `f` applies to an abstraction, the abstraction, and its body. None if it isn't a
+/// rule that introduces a quantifier, or is applied to another term.
 fn rule_on<S: Signature>(
     table: &mut Table,
     kept: &Kept,
@@ -221,7 +221,7 @@ fn rule_on<S: Signature>(
     }
 }
 
-/// What the rule asks and gives, with the predicate of that body in it.
+/// The types that the rule requires and gives, with the predicate of that body in it.
 fn fitted_on<S: Signature>(
     table: &mut Table,
     kept: &Kept,
@@ -252,8 +252,8 @@ fn fitted_on<S: Signature>(
     })
 }
 
-/// What the application of `f` to `m` asks and gives, where `f` is a rule that introduces a quantifier,
-/// applied to an abstraction.
+/// What the application of `f` to `m` requires and gives, if `f` is a rule that introduces a
+/// quantifier, applied to an abstraction.
 pub(crate) fn introduction_on<S: Signature>(
     table: &mut Table,
     kept: &Kept,

@@ -1,9 +1,9 @@
-//! Judgements that are kept, so that a term that stands in many places is judged once where the
-//! variables that it uses have the same types (`contexts.rt` finds the context in which it was).
+//! Cached judgements, so that a shared term is checked once if the variables that it uses have the
+//! same types (`contexts.rt` finds the context in which it was checked).
 //!
-//! Only what holds is kept: what doesn't hold ends the call. A context is an id of the table too
-//! (`specs/Lists`), so equal contexts are equal ids. Rows are found by an ordered map
-//! of numbers, so that no choice of ids makes them slow to find.
+//! Only judgements that hold are cached: one that doesn't hold ends the call. A context is an id of
+//! the table too (`specs/Lists`), so equal contexts have equal ids. Rows are found by an ordered
+//! map of numbers, so that no choice of ids makes them slow to find.
 
 ghost use Rattle.std.specs.Prelude.{◌≡◌, ◌+◌, ◌/◌, ◌^◌, ◌-◌, ◌≤◌, min, IfSome, OnOk, Option};
 ghost use Rattle.term_table.specs.Tree.{Tree, Const};
@@ -18,10 +18,10 @@ use std::alloc::Global;
 use std::collections::BTreeMap;
 use term_table::{Id, Table};
 
-/// So many steps along contexts, which keep nothing, count as one judgement.
+/// How many steps along contexts, which cache nothing, count as one judgement.
 pub const STEPS_A_JUDGEMENT: u64 = 64;
 
-/// What is asked of a term or type, by ids.
+/// A cache key: a judgement on a term or type, by ids.
 #[derive(Clone, Copy, PartialEq, Eq, PartialOrd, Ord)]
 pub(crate) enum Question {
     /// The type that the term synthesises.
@@ -48,10 +48,11 @@ pub(crate) struct Found {
     pub(crate) context: Id,
 }
 
-/// Results and judgements on one table and signature, all up to one limit.
+/// Cached results and judgements on one table and signature, up to one limit for all.
 #[derive(Drop)]
 pub struct Kept {
-    /// Results of shifts and substitutions on the table. Its limit is that of the judgements too.
+    /// Cached results of shifts and substitutions on the table. Its limit is the judgements' limit
+    /// too.
     pub memo: Memo,
     rows: BTreeMap<Question, Row>,
     // along contexts, with their limit in judgements
@@ -89,8 +90,9 @@ fn row_of(answer: Id, context: Id) -> Row
 }
 
 impl Kept {
-    /// Nothing kept yet, which takes no memory. A call that would keep more than `limit` results of
-    /// shifts and substitutions and judgements, counted together, answers `Results`.
+    /// Returns an empty cache, which allocates nothing yet. A call that would cache more than
+    /// `limit` results of shifts, substitutions and judgements, counted together, returns
+    /// `Results`.
     pub fn new(alloc: Global, limit: usize) -> Kept
         ensures kept { (sig : Const → Option Tree) (t : TableView) → AreKept sig t result }
         ensures left { left_of result.memo ≡ limit }
@@ -103,7 +105,8 @@ impl Kept {
         }
     }
 
-    /// Counts a step along a context, which keeps nothing. Fails past the limit of steps, by `Results`.
+    /// Counts a step along a context, which keeps nothing. Fails past the limit of steps, by
+    /// `Results`.
     pub(crate) fn step<S: Signature>(&mut self, table: &Table, sig: &S) -> Result<(), Exhausted>
         requires { AreKept (S.declares sig.now table.now) table.now self.old }
         ensures kept { AreKept (S.declares sig.now table.now) table.now self.new }
@@ -119,7 +122,9 @@ impl Kept {
         Ok(())
     }
 
-    /// Counts a result that is kept elsewhere. Fails past the limit, by `Results`.
+    /// Counts a result that is cached elsewhere.
+    ///
+    /// Errors: `Results` past the limit.
     pub(crate) fn spend<S: Signature>(&mut self, table: &Table, sig: &S) -> Result<(), Exhausted>
         requires { AreKept (S.declares sig.now table.now) table.now self.old }
         ensures kept { AreKept (S.declares sig.now table.now) table.now self.new }
@@ -131,7 +136,7 @@ impl Kept {
         Ok(())
     }
 
-    /// What is kept of the question, as numbers.
+    /// The cached answer to the question, as numbers.
     fn row<S: Signature>(&self, table: &Table, sig: &S, question: &Question) -> Option<Row>
         requires { AreKept (S.declares sig.now table.now) table.now self.now }
         ensures { let declared = S.declares sig.now table.now in
@@ -143,7 +148,7 @@ impl Kept {
         self.rows.get(question).copied()
     }
 
-    /// What is kept of the question.
+    /// The cached answer to the question.
     pub(crate) fn find<S: Signature>(
         &self,
         table: &Table,
@@ -161,8 +166,9 @@ impl Kept {
         }
     }
 
-    /// Keeps an answer to the question in the context, in place of one in another. Fails past the
-    /// limit, and where memory does.
+    /// Caches an answer to the question in the context, in place of one in another.
+    ///
+    /// Errors: the limit is reached, or out of memory.
     pub(crate) fn keep<S: Signature>(
         &mut self,
         table: &Table,

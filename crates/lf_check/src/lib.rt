@@ -1,16 +1,16 @@
-//! Whether a term checks at a type, what an atomic term synthesises, and whether a type is well
-//! formed, over any signature.
+//! A bidirectional LF type checker, over any signature.
 //!
-//! The layer above uses that `check_term` is true exactly where there is a derivation that the term
-//! checks at the type in the context; nothing is asked of terms, types and contexts but that their
-//! ids are the table's. The derivations stand in `lf_signature` (`specs/Typing`). Each old id keeps
-//! its tree, also where memory fails.
+//! It decides whether a term checks against a type, which type an atomic term synthesises, and
+//! whether a type is well formed. The layer above uses that `check_term` returns true exactly if
+//! there is a derivation that the term checks against the type in the context. Terms, types and
+//! contexts may be anything whose ids are the table's. The derivations are defined in
+//! `lf_signature` (`specs/Typing`). Each old id keeps its tree, also if a call runs out of memory.
 //!
-//! No shared term is judged twice where the variables that it uses have the same types: `Kept` has the
-//! judgements, and can be handed from call to call on one table and signature. It has one limit for
-//! all that it keeps, past which a call answers `Exhausted::Results`; its `memo` can be lent to other
-//! calls on the table. Source: Harper and Licata, Mechanizing Metatheory in a Logical Framework, JFP 2007,
-//! section 2.
+//! No shared term is checked twice if the variables that it uses have equal types: `Kept` caches
+//! the judgements, and can be passed from call to call on one table and signature. It has one limit
+//! for all that it caches; past it a call returns `Exhausted::Results`. Its `memo` can be lent to
+//! other calls on the table. Source: Harper and Licata, Mechanizing Metatheory in a Logical
+//! Framework, JFP 2007, section 2.
 #![tactic(auto)]
 
 mod contexts;
@@ -36,9 +36,11 @@ use std::alloc::{AllocError, Global};
 use term_table::{Id, Table};
 use walk::{check_at, synth_at};
 
-/// Whether the term `m` checks at the type `a` in the context `ctx`, whose nearest type stands last:
-/// true exactly where there is a derivation. Fails only for want of memory, which more than
-/// `MOST_RESULTS` results and judgements, counted together, are too.
+/// Returns whether the term `m` checks against the type `a` in the context `ctx`, whose nearest
+/// type is last: true exactly if there is a derivation.
+///
+/// Errors: out of memory, also if more than `MOST_RESULTS` results and judgements, counted
+/// together, would be cached; each id keeps its tree.
 pub fn check_term<S: Signature>(
     alloc: Global,
     table: &mut Table,
@@ -61,7 +63,10 @@ pub fn check_term<S: Signature>(
     Ok(check_term_with(table, &mut kept, sig, ctx, m, a)?)
 }
 
-/// `check_term`, with what `kept` has of earlier calls on the table and signature.
+/// Returns whether the term `m` checks against the type `a` in the context `ctx`, as `check_term`
+/// does, with the cached results of earlier calls on the table and signature in `kept`.
+///
+/// Errors: out of memory, or the limit of `kept` is reached; each id keeps its tree.
 pub fn check_term_with<S: Signature>(
     table: &mut Table,
     kept: &mut Kept,
@@ -87,9 +92,11 @@ pub fn check_term_with<S: Signature>(
     check_at(table, kept, sig, c, m, a)
 }
 
-/// The type that the atomic term `r` synthesises in the context `ctx`, whose nearest type stands
-/// last: None exactly where it synthesises none. Fails only for want of memory, which more than
-/// `MOST_RESULTS` results and judgements, counted together, are too.
+/// Returns the type that the atomic term `r` synthesises in the context `ctx`, whose nearest type
+/// is last: None exactly if it synthesises none.
+///
+/// Errors: out of memory, also if more than `MOST_RESULTS` results and judgements, counted
+/// together, would be cached; each id keeps its tree.
 pub fn synth<S: Signature>(
     alloc: Global,
     table: &mut Table,
@@ -109,7 +116,10 @@ pub fn synth<S: Signature>(
     Ok(synth_with(table, &mut kept, sig, ctx, r)?)
 }
 
-/// `synth`, with what `kept` has of earlier calls on the table and signature.
+/// Returns the type that the atomic term `r` synthesises in the context `ctx`, as `synth` does,
+/// with the cached results of earlier calls on the table and signature in `kept`.
+///
+/// Errors: out of memory, or the limit of `kept` is reached; each id keeps its tree.
 pub fn synth_with<S: Signature>(
     table: &mut Table,
     kept: &mut Kept,
@@ -132,9 +142,11 @@ pub fn synth_with<S: Signature>(
     synth_at(table, kept, sig, c, r)
 }
 
-/// Whether the type `a` is well formed in the context `ctx`, whose nearest type stands last: true
-/// exactly where there is a derivation. Fails only for want of memory, which more than `MOST_RESULTS`
-/// results and judgements, counted together, are too.
+/// Returns whether the type `a` is well formed in the context `ctx`, whose nearest type is last:
+/// true exactly if there is a derivation.
+///
+/// Errors: out of memory, also if more than `MOST_RESULTS` results and judgements, counted
+/// together, would be cached; each id keeps its tree.
 pub fn check_type<S: Signature>(
     alloc: Global,
     table: &mut Table,
@@ -154,7 +166,10 @@ pub fn check_type<S: Signature>(
     Ok(check_type_with(table, &mut kept, sig, ctx, a)?)
 }
 
-/// `check_type`, with what `kept` has of earlier calls on the table and signature.
+/// Returns whether the type `a` is well formed in the context `ctx`, as `check_type` does, with the
+/// cached results of earlier calls on the table and signature in `kept`.
+///
+/// Errors: out of memory, or the limit of `kept` is reached; each id keeps its tree.
 pub fn check_type_with<S: Signature>(
     table: &mut Table,
     kept: &mut Kept,

@@ -1,4 +1,4 @@
-//! The calls that make trees, with what was kept before: as the table grows, it stays right.
+//! The calls that build trees, with the cached results: these stay right as the table grows.
 
 ghost use Rattle.std.specs.Prelude.{◌≡◌, ◌≤◌, ◌^◌, IfOk};
 ghost use Rattle.term_table.specs.Tree.{shifted};

@@ -1,8 +1,9 @@
-//! Which variables a tree uses, as sets that are ids of the table.
+//! The variables that a tree uses, as sets that are ids of the table.
 //!
-//! A set without variables is a family; any other is an application of its nearest variable to the
-//! set of the others, counted from behind that one. So a set is as long as it has variables, whatever
-//! their numbers are. It may have more variables than the tree uses, which loses time alone.
+//! The empty set is a family; any other is an application of its nearest variable to the set of the
+//! others, counted from the binder outside that variable. So a set is as long as it has variables,
+//! whatever their numbers are. It may have more variables than the tree uses, which only costs
+//! time.
 
 ghost use Rattle.std.specs.Prelude.{◌≡◌, true, false, ℕ, ◌<◌, ◌+◌, suc, IfOk};
 ghost use Rattle.term_table.specs.Tree.{App, Lam, Pi, TApp, Var};
@@ -28,7 +29,7 @@ fn is_variable(table: &Table, id: Id) -> bool
     }
 }
 
-/// Whether the tree stands for a set with variables.
+/// Whether the tree represents a set with variables.
 pub(crate) fn is_set(table: &Table, id: Id) -> bool
     requires { IsKnown table.now id }
     ensures { result ≡ is_set (tree_at table.now id) }
@@ -55,7 +56,7 @@ pub(crate) fn set_parts(table: &Table, id: Id) -> (u32, Id)
     }
 }
 
-/// The set of the variable `gap` and of those of `rest`, counted from behind it.
+/// The set of the variable `gap` and of those of `rest`, counted from the binder outside it.
 fn with_first<S: Signature>(
     table: &mut Table,
     kept: &mut Kept,

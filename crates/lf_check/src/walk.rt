@@ -1,5 +1,5 @@
-//! Terms checked at types and types synthesised. A judgement that was found in one context answers
-//! in each other that gives the variables that the term uses the same types.
+//! Checks terms against types and synthesises types. A judgement found in one context also holds in
+//! each context that gives the variables that the term uses equal types.
 
 ghost use Rattle.std.specs.Prelude.{◌≡◌, true, false, ◌<◌, ◌≤◌, ◌+◌, ◌^◌, IfOk, IsTrue};
 ghost use Rattle.term_table.specs.Tree.{at, App, Lam, Pi};
@@ -198,7 +198,7 @@ fn application_at<S: Signature>(
     }
 }
 
-/// The same by the type that f synthesises.
+/// Synthesises the type of an application, by the type that `f` synthesises.
 #[cycle(check)]
 fn applied_at<S: Signature>(
     table: &mut Table,
@@ -232,7 +232,7 @@ fn applied_at<S: Signature>(
     subst_on(table, kept, sig, to, m, from)
 }
 
-/// The same where f is a rule that introduces a quantifier.
+/// Synthesises the type of an application whose `f` is a rule that introduces a quantifier.
 #[cycle(check)]
 fn introduced_at<S: Signature>(
     table: &mut Table,

@@ -1,8 +1,8 @@
-//! Whether a term is what a substitution of the machine's variables makes, by a walk through both of
-//! which no node is made but what is put under binders.
+//! Compares a term with the result of substituting for the machine's variables. The walk through
+//! both builds no node except what is put under binders.
 //!
-//! What was found equal is kept as a result of the substitution, by entry and by the count of nearer
-//! variables: a second question about it compares ids.
+//! Terms that were found equal are cached as results of the substitution, by node and by the count
+//! of nearer variables: a second comparison compares ids.
 
 ghost use Rattle.std.specs.Prelude.{◌≡◌, ◌↔◌, ◌+◌, ◌<◌, ◌^◌, IfOk, IsTrue};
 ghost use Rattle.term_table.specs.Table.{IsKnown, tree_at, Extends};
@@ -15,8 +15,8 @@ use crate::puts::{MachineIds, Place, PutMemo, is_near, number, put_variable};
 use hereditary_subst::{Exhausted, Memo};
 use term_table::{Id, Node, Table};
 
-/// Whether `goal` is the term of `id` with what is put, where `depth` variables are nearer than the
-/// machine's.
+/// Whether `goal` is the term of `id` after the substitution, `depth` variables being nearer than
+/// the machine's.
 #[cycle(comparing)]
 #[tactic(auto, using(crate::proofs::KeptRows::rows))]
 fn is_put_at(
@@ -58,7 +58,7 @@ fn is_put_at(
     Ok(equal)
 }
 
-/// The same, by the parts of both terms.
+/// Whether `goal` is the term of `id` after the substitution, by the parts of both terms.
 #[cycle(comparing)]
 #[tactic(auto, using(crate::proofs::KeptRows::rows))]
 fn is_put_by_parts(
@@ -107,15 +107,15 @@ fn is_put_by_parts(
     }
 }
 
-/// Whether `goal` is the term that `put` gives of `id` with `ids`: the term of `id`, which is over
-/// the context left, m, r0 to r30 or one without left, with the terms of `ids` for these. The first
-/// difference ends the comparison.
+/// Returns whether `goal` is the term that `put` returns for `id` and `ids`. The term of `id` is
+/// over the context left, m, r0 to r30 or one without left; the terms of `ids` are substituted for
+/// these variables. The first difference ends the comparison.
 ///
-/// `shifts` and `kept` are what earlier calls on the table kept, `kept` of the same `ids`; it may
-/// have results of `put_with` too. What is found equal is kept, and counts in the limit of
-/// `shifts`.
+/// `shifts` and `kept` have the cached results of earlier calls on the table, `kept` those for
+/// equal `ids`; it may have results of `put_with` too. Terms that are found equal are cached, and
+/// count in the limit of `shifts`.
 ///
-/// Errors: want of memory, and `Exhausted::Results` past that limit; each id keeps its tree.
+/// Errors: out of memory, and `Exhausted::Results` past that limit; each id keeps its tree.
 pub fn is_put_with(
     table: &mut Table,
     shifts: &mut Memo,

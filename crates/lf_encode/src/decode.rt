@@ -1,4 +1,4 @@
-//! From terms to formulas, and which terms are formulas.
+//! Decodes terms to formulas, and checks which terms are formulas.
 
 ghost use Rattle.std.specs.Prelude.{◌≡◌, ◌↔◌, suc, ◌+◌, ◌^◌, ◌<◌, max, IfOk, IsTrue, MatchOption};
 ghost use Rattle.term_table.specs.Tree.{App, Fam};
@@ -48,10 +48,10 @@ fn context_types(alloc: Global, table: &mut Table, ctx: &[Sort]) -> Result<Vec<I
     Ok(types)
 }
 
-/// Answers whether the term `id` has type form in the context `ctx` of word and memory variables,
-/// the nearest last: whether it is the encoding of a formula over `ctx`.
+/// Returns whether the term `id` is a well-typed formula in the context `ctx` of word and memory
+/// variables, the nearest last: whether it is the encoding of a formula over `ctx`.
 ///
-/// Errors: want of memory alone; each id keeps its tree.
+/// Errors: out of memory alone; each id keeps its tree.
 pub fn is_form<S: Known>(
     table: &mut Table,
     sig: &S,
@@ -72,8 +72,7 @@ pub fn is_form<S: Known>(
     check_term(alloc, table, sig, types.as_slice(), id, form)
 }
 
-/// The expression that the variable `n` stands for, where `depth` variables are nearer than the
-/// machine's.
+/// The expression of the variable `n`, `depth` variables being nearer than the machine's.
 fn word_variable(n: u32, depth: u64) -> Exp
     ensures { exp_view result ≡ unnamed_exp depth (EVar n) }
 {
@@ -86,7 +85,7 @@ fn word_variable(n: u32, depth: u64) -> Exp
     Exp::Left
 }
 
-/// The memory that the variable `n` stands for.
+/// The memory of the variable `n`.
 fn memory_variable(n: u32, depth: u64) -> MemExp
     ensures { mem_exp_view result ≡ unnamed_mem depth (MVar n) }
 {
@@ -96,8 +95,8 @@ fn memory_variable(n: u32, depth: u64) -> MemExp
     MemExp::Mem
 }
 
-/// The expression that a term encodes, where `depth` variables are nearer than the machine's. Of a
-/// term that encodes none it answers any.
+/// The expression that a term encodes, `depth` variables being nearer than the machine's; any
+/// expression if it encodes none.
 #[cycle(decoding)]
 fn decode_exp(alloc: Global, table: &Table, id: Id, depth: u64) -> Result<Exp, AllocError>
     requires { IsKnown table.now id }
@@ -177,8 +176,8 @@ fn decode_store(
     MemExp::upd(alloc, before, address, decode_exp(alloc, table, v, depth)?)
 }
 
-/// The formula that a term encodes, where `depth` variables are nearer than the machine's. Of a
-/// term that encodes none it answers any.
+/// The formula that a term encodes, `depth` variables being nearer than the machine's; any formula
+/// if it encodes none.
 #[cycle(formulas)]
 fn decode_form(alloc: Global, table: &Table, id: Id, depth: u64) -> Result<Form, AllocError>
     requires known { IsKnown table.now id }
@@ -299,11 +298,11 @@ fn decode_joined(
     }
 }
 
-/// Answers the formula over `ctx`, of the operators of `sig` and without register 31, of which the
-/// term `id` is the encoding: None exactly where the term hasn't type form over `sig` in that
+/// Returns the formula that the term `id` encodes over `ctx`: it has operators of `sig` alone and
+/// no register 31. Returns None exactly if the term isn't a well-typed formula over `sig` in that
 /// context of word and memory variables, the nearest last.
 ///
-/// Errors: want of memory alone; each id keeps its tree.
+/// Errors: out of memory alone; each id keeps its tree.
 pub fn form_of<S: Known>(
     table: &mut Table,
     sig: &S,

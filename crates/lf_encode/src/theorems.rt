@@ -1,4 +1,4 @@
-//! What holds of encodings, with nothing to run.
+//! Theorems about encodings; their functions run nothing.
 
 ghost use Rattle.std.specs.Prelude.{◌≡◌, ◌<◌, ◌^◌, ℕ, suc, Bool, Option, Some};
 ghost use Rattle.std.specs.Prelude.{List, length, ◌++◌, take, drop};
@@ -25,11 +25,12 @@ ghost use Rattle.lf_encode.specs.Contexts.{exp_encoding_in, mem_encoding_in, enc
 ghost use Rattle.lf_encode.specs.Contexts.{EncodesForm, EncodesExp, EncodesMem, machine_names};
 ghost use Rattle.lf_encode.specs.PutTree.{machine_terms_of, put_tree};
 
-/// Over a signature of word arithmetic, a term of type form, exp or mem in a context of word and
-/// memory variables, whose nearest stands last, is the encoding of exactly one formula, expression
-/// or memory over the context, of the signature's operators and without register 31. The other way,
-/// the encoding of each formula, expression or memory of these operators over the context, also with
-/// register 31, has the type where its height and the context's length are below 2^31.
+/// States that the encoding is adequate over a signature of word arithmetic, in a context of word
+/// and memory variables, whose nearest is last. A term of type form, exp or mem is the encoding of
+/// exactly one formula, expression or memory over the context. That one has the signature's
+/// operators alone and no register 31. Conversely, take a formula, expression or memory of these
+/// operators over the context, also with register 31. Its encoding has the type if its height and
+/// the context's length are below 2^31.
 pub fn adequacy_laws()
     ensures forms { (sig : Const → Option Tree) → IsKnownSignature sig →
         (ctx : List Sort) (t : Tree) → Checks sig (sort_types ctx) t form →
@@ -60,10 +61,10 @@ pub fn adequacy_laws()
         Checks sig (sort_types ctx) (mem_encoding_in ctx m) mem }
 {}
 
-/// Where an expression or a memory over variables is put for a variable of its sort, the encoding
-/// of what comes of it is hereditary substitution on the encodings: at expressions and memories
-/// always, at formulas where the height, and the length of the context that the part is over, are
-/// below 2^31.
+/// States that substitution commutes with encoding. If an expression or a memory over variables is
+/// substituted for a variable of its sort, the encoding of the result is the result of hereditary
+/// substitution on the encodings. This holds for expressions and memories always, and for formulas
+/// if the height, and the length of the context that the substituted part is over, are below 2^31.
 pub fn substitution_on_encodings()
     ensures exps { (e : Exp) (G : List VarSort) (x : ℕ) (p : Part) →
         IsOverExp 0 e G → sort_at G x ≡ Some (part_sort p) →
@@ -80,13 +81,14 @@ pub fn substitution_on_encodings()
         ≡ Some (form_encoding (subst_var F x p)) }
 {}
 
-/// Hereditary substitution on encodings over a context, which may have the machine's variables, is
-/// substitution of an expression or a memory for one variable: at expressions and memories always,
-/// at formulas where the height and the contexts' lengths are below 2^31. For any variable, one of
-/// the machine's too, what is put is over variables alone, and the result is the encoding of what
-/// comes of it after variables were put for registers and m; the others are numbered as in the
-/// context without that one. For a bound variable, one that isn't the machine's, what is put may
-/// name registers and m itself, and the result is the encoding over the context without it.
+/// States that hereditary substitution on encodings over a context, which may have the machine's
+/// variables, is substitution of an expression or a memory for one variable. This holds for
+/// expressions and memories always, and for formulas if the height and the contexts' lengths are
+/// below 2^31. For any variable, also one of the machine's, the substituted part is over variables
+/// alone; the result is the encoding of what substitution gives after variables were put for
+/// registers and m, and the other variables are numbered as in the context without that one. For a
+/// bound variable, one that isn't the machine's, the substituted part may name registers and m
+/// itself, and the result is the encoding over the context without the variable.
 pub fn substitution_in_contexts()
     ensures exps_in { (ctx : List Sort) (e : Exp) (x : ℕ) (p : Part) →
         IsExpIn ctx 32 e → sort_at (sorts_of ctx) x ≡ Some (part_sort p) →
@@ -119,9 +121,9 @@ pub fn substitution_in_contexts()
         ≡ Some (encoding_in rest (subst_var F x p)) }
 {}
 
-/// The sorts of a context without one variable are the context's without that variable's; and what
-/// comes of a substitution for a bound variable is over that context where what is put is over it,
-/// and both contexts have as many of the machine's variables.
+/// States that the sorts of a context without one variable are the context's sorts without that
+/// variable's. The result of substituting for a bound variable is over the context without it if
+/// the substituted part is, and both contexts have as many of the machine's variables.
 pub fn scope_laws()
     ensures sorts { (ctx : List Sort) (x : ℕ) →
         sorts_of (without_var x ctx) ≡ take x (sorts_of ctx) ++ drop (suc x) (sorts_of ctx) }
@@ -142,9 +144,9 @@ pub fn scope_laws()
         IsFormIn rest r (subst_var F x p) }
 {}
 
-/// Terms put for the machine's variables in the encoding of a formula, where `B` are the nearer
-/// variables, give the encoding of the formula in which their formulas were put for registers, m and
-/// the steps that are left.
+/// States that substitution for the machine's variables commutes with encoding. Substituting terms
+/// for them in the encoding of a formula, where `B` are the nearer variables, gives the encoding of
+/// another formula: the terms' formulas are substituted for registers, m and the remaining steps.
 pub fn put_laws()
     ensures { (left : Bool) (r : ℕ) (F : Form) (B : List VarSort) (s : Substitution) →
         length s.regs ≡ 31 → IsWithin left r F B →

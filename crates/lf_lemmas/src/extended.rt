@@ -23,12 +23,12 @@ fn lemma_formula(lemmas: &[(Id, Id)], number: u32) -> Option<Id>
 }
 
 /// A signature with lemmas: it gives lemma n the type of the proofs of formula n, none past the
-/// last, and all else what `sig` gives. It wants a table that has the lemmas' trees, and that each
-/// formula checks at the type of formulas in the empty context (`HoldsLemmas`); of the proofs it
-/// says nothing. For the lemmas before a number take that many from the front.
+/// last, and every other constant what `sig` gives. It requires a table that has the lemmas' trees,
+/// and that each formula checks against the type of formulas in the empty context (`HoldsLemmas`);
+/// it requires nothing of the proofs. For the lemmas before a number take that many from the front.
 #[derive(Drop)]
 pub struct WithLemmas<'a, S> {
-    /// The signature of the formulas, which has no lemmas.
+    /// The signature that the formulas are over, which has no lemmas.
     pub sig: &'a S,
     /// The formula and the proof of each lemma.
     pub lemmas: &'a [(Id, Id)],

@@ -1,4 +1,4 @@
-//! What holds of lemmas, with nothing to run.
+//! Theorems about lemmas; their functions run nothing.
 
 ghost use Rattle.std.specs.Prelude.{◌≡◌, ◌↔◌, ℕ, true, Option, List, [], length, take};
 ghost use Rattle.term_table.specs.Tree.{Tree, Const, fits};
@@ -13,15 +13,17 @@ ghost use Rattle.lf_lemmas.specs.Checking.{LemmasCheck, AllProve, CiteBackwards,
 ghost use Rattle.lf_lemmas.specs.Checking.{ChecksWithLemmas, ChecksWrittenOut};
 ghost use Rattle.lf_lemmas.specs.Orderly.{AdmitsLemmas};
 
-/// Over a signature that lemmas can be added to, the proofs of lemmas whose formulas are ones and a
-/// proof of the formula `G` check with the lemmas exactly where they do written out
-/// (`written_out`). Writing out changes no formula, and where lemmas cite those before them alone,
-/// none is left (`same_formulas`, `none_left`, `nothing_left`). Each signature of word arithmetic
-/// is such a signature (`words`), and the trees of a table fit (`fit`).
+/// States that lemmas add no proving power. Over a signature that admits lemmas, take lemmas whose
+/// formulas are formulas, and a proof of the formula `G`. Their proofs check with the lemmas
+/// exactly if they check with all lemmas inlined (`written_out`). Inlining changes no formula, and
+/// if lemmas cite earlier ones alone, no citation is left (`same_formulas`, `none_left`,
+/// `nothing_left`). Each signature of word arithmetic admits lemmas (`words`), and the trees of a
+/// table fit (`fit`).
 ///
-/// For a caller that goes by the number: what checks with the lemmas below `j` is what checks with
-/// all and cites those alone (`part`); so the proofs of all lemmas check, each with those before
-/// it, exactly where they check over the one signature with all and cite backwards (`at_once`).
+/// For a caller that checks lemmas by number: a term checks with the lemmas below `j` exactly if it
+/// checks with all lemmas and cites those below `j` alone (`part`). So the proofs of all lemmas
+/// check, each with those before it, exactly if they check over the one signature with all and cite
+/// backwards (`at_once`).
 pub fn laws()
     ensures written_out { (sig : Const → Option Tree) (lemmas : List (Tree × Tree)) (t G : Tree) →
         AdmitsLemmas sig → AreFormulas sig (formulas_of lemmas) → AllFit lemmas →

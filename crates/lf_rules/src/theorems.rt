@@ -1,4 +1,4 @@
-//! Laws of rules at arguments, and of plain substitution.
+//! Theorems about rules at arguments, and about ordinary substitution.
 
 ghost use Rattle.std.specs.Prelude.{◌≡◌, ◌≤◌, ◌+◌, ◌^◌, ℕ, List, [], Option, Some, length};
 ghost use Rattle.term_table.specs.Tree.{Tree, Const, Num, Fam, at};
@@ -12,8 +12,9 @@ ghost use Rattle.lf_rules.specs.Plain.{IsUnapplied, plain_subst, var_bound, bind
 ghost use Rattle.lf_rules.specs.Named.{AreNamed};
 ghost use Rattle.lf_rules.specs.Instance.{nth_arg, form_with, by_rule, AreArguments, AreProofs};
 
-/// Laws of the rules: at arguments and at proofs of its premises a rule's constant is a proof of its
-/// conclusion there. A term's variables are bounded by its context and its binders.
+/// States that a rule's constant, applied to arguments and to proofs of its premises, is a proof of
+/// its conclusion at these arguments. A term's variables are bounded by its context and its
+/// binders.
 pub fn rule_laws()
     ensures sound { (sig : Const → Option Tree) (n : ℕ) (r : Rule) → rule_at n ≡ Some r
         → sig (Num n) ≡ Some (rule_type r) → (ctx : List Tree) (d : ℕ) (args proofs : List Tree)
@@ -24,12 +25,12 @@ pub fn rule_laws()
         → Checks sig ctx t a → var_bound t ≤ length ctx + binder_depth t }
 {}
 
-/// The rules' names: the rule at each named number is the one that its name stands for.
+/// States that the rule at each named number is the one that its name stands for.
 pub fn name_laws()
     ensures { AreNamed }
 {}
 
-/// Laws of plain substitution: at a base type hereditary substitution is plain where the variable is
+/// States that hereditary substitution at a base type is ordinary substitution if the variable is
 /// applied to nothing, as a variable of a family's type is.
 pub fn plain_laws()
     ensures plain { (t : Tree) (x : ℕ) → IsUnapplied x t → (s : ℕ) (m : Tree)

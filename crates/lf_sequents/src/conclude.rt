@@ -1,4 +1,4 @@
-//! The sequent of a rule's conclusion.
+//! Builds the sequent of a rule's conclusion.
 
 ghost use Rattle.std.specs.Prelude.{◌≡◌, ◌≤◌, ◌<◌, ◌+◌, ◌^◌, IfOk, IsTrue, map, length};
 ghost use Rattle.term_table.specs.Tree.{apps};
@@ -33,7 +33,7 @@ fn highest(table: &Table, ids: &[Id], least: u32) -> u32
     }
 }
 
-/// The same of the proofs of sequents.
+/// A height that none of the sequents' proofs passes, from one that others have.
 fn highest_proof(table: &Table, premises: &[&Sequent], least: u32) -> u32
     requires { AreOfTable table.now (sequents_of premises.now) }
     ensures least { least ≤ result }
@@ -98,7 +98,11 @@ fn with_proofs(
     }
 }
 
-/// The sequent of the conclusion of the rule of this number, at these parameters and premises.
+/// Returns the sequent of the conclusion of the rule with this number, at these parameters and
+/// premises, under the hypotheses `hyps`: None if the signature lacks the rule, or if they don't
+/// have its form.
+///
+/// Errors: out of memory, also if a variable might reach 2^32; each id keeps its tree.
 pub fn by_rule<S: Known>(
     alloc: Global,
     table: &mut Table,

@@ -1,5 +1,5 @@
-//! The formulas of a rule with terms for its parameters, made in a table. The terms may stand under
-//! more binders than those of the parameters.
+//! Builds the formulas of a rule with terms for its parameters in a table. The formulas may be
+//! under more binders than the terms.
 
 ghost use Rattle.std.specs.Prelude.{◌≡◌, ◌≤◌, ◌^◌, IfOk};
 ghost use Rattle.term_table.specs.Table.{IsKnown, AllKnown, tree_at, Extends};
@@ -120,7 +120,7 @@ fn connective_constant(connective: Connective) -> u32
     }
 }
 
-/// The formula with the terms for the parameters.
+/// Builds the formula `form` with the terms `params` for its parameters, raised by `depth`.
 #[tactic(auto, using(lf_rules::proofs::Grown::grown))]
 pub fn form_id(
     table: &mut Table,

@@ -1,4 +1,4 @@
-//! Shifts and plain substitution on ids, with results that are kept.
+//! Shifts and ordinary substitution on ids, with cached results.
 
 ghost use Rattle.std.specs.Prelude.{◌≡◌, ◌≤◌, ◌^◌, Some, IfOk};
 ghost use Rattle.term_table.specs.Tree.{shift};
@@ -13,7 +13,9 @@ use lf_signature::pf;
 use std::alloc::AllocError;
 use term_table::{Id, Node, Table};
 
-/// The tree under so many more binders. Where a variable would reach 2^32, want of memory.
+/// Raises every free variable of a tree by `by`.
+///
+/// Errors: out of memory, also if a variable would reach 2^32; each id keeps its tree.
 pub fn raised(table: &mut Table, memo: &mut Memo, id: Id, by: u64) -> Result<Id, AllocError>
     requires small { by ≤ 2 ^ 32 }
     requires known { IsKnown table.old id }
@@ -28,8 +30,9 @@ pub fn raised(table: &mut Table, memo: &mut Memo, id: Id, by: u64) -> Result<Id,
     }
 }
 
-/// The type of proofs with a term of this family for the nearest variable. Where substitution has no
-/// result, want of memory.
+/// The type of proofs with a term of this family for the nearest variable.
+///
+/// Errors: out of memory, also if substitution has no result.
 fn put(
     table: &mut Table,
     memo: &mut Memo,
@@ -53,8 +56,10 @@ fn put(
     }
 }
 
-/// The body of a formula over a word or memory, with a term of this family put in; what is no
-/// abstraction stays. Where substitution has no result, want of memory.
+/// Returns the body of a formula over a word or memory, `f`, with the term `arg` of this family
+/// substituted; if `f` is no abstraction, returns `f`.
+///
+/// Errors: out of memory, also if substitution has no result; each id keeps its tree.
 #[tactic(auto, using(lf_rules::proofs::Grown::grown))]
 pub fn beta_id(
     table: &mut Table,

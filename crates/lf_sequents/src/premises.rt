@@ -1,4 +1,4 @@
-//! Whether parameters and premises have a rule's form.
+//! Checks whether parameters and premises have a rule's form.
 
 ghost use Rattle.std.specs.Prelude.{◌≡◌, ◌↔◌, ◌++◌, [], ◌∷◌, IfOk, IsTrue, map};
 ghost use Rattle.term_table.specs.Table.{IsKnown, AllKnown, tree_at, ctx_of, Extends};
@@ -64,7 +64,7 @@ fn is_typed<S: Signature>(
     Ok(check_term_with(table, kept, sig, hyps, param, kind)?)
 }
 
-/// Whether each term checks at its parameter's type.
+/// Checks whether each term checks against its parameter's type.
 pub fn are_typed<S: Signature>(
     table: &mut Table,
     kept: &mut Kept,
@@ -98,7 +98,7 @@ pub fn are_typed<S: Signature>(
     }
 }
 
-/// Whether the ids are the same.
+/// Whether the lists of ids are equal.
 fn are_same(a: &[Id], b: &[Id]) -> bool
     ensures { IsTrue result ↔ (a.now ≡ b.now) }
 {
@@ -202,7 +202,7 @@ fn fits(
     }
 }
 
-/// Whether each sequent has the hypotheses and the goal of its premise.
+/// Checks whether each sequent has the hypotheses and the goal of its premise.
 pub fn do_fit(
     table: &mut Table,
     memo: &mut Memo,

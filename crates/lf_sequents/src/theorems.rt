@@ -1,4 +1,4 @@
-//! Laws of sequents.
+//! Theorems about sequents.
 
 ghost use Rattle.std.specs.Prelude.{◌≡◌, ℕ, List, [], Option, Some};
 ghost use Rattle.term_table.specs.Tree.{Tree, Const, Num};
@@ -13,9 +13,9 @@ ghost use Rattle.lf_sequents.specs.Sequents.{IsSequent, AreSequents};
 ghost use Rattle.lf_sequents.specs.Answers.{HasForm, proofs_taken};
 ghost use Rattle.lf_sequents.specs.Room.{HasVarRoom};
 
-/// Laws of sequents: one of a table is one of each later table; without hypotheses its term checks at
-/// the proofs of its goal in the empty context, also in a later table; and a term proves one formula
-/// at most.
+/// States that a sequent of a table is also a sequent of each later table. Without hypotheses its
+/// term checks against the proofs of its goal in the empty context, also in a later table. A term
+/// proves at most one formula.
 pub fn sequent_laws()
     ensures lasts { (sig : Const → Option Tree) (t u : TableView) (s : Sequent)
         → Extends t u → IsSequent sig t s → IsSequent sig u s }
@@ -26,8 +26,8 @@ pub fn sequent_laws()
         → Checks sig ctx p (pf a) → Checks sig ctx p (pf b) → a ≡ b }
 {}
 
-/// Of parameters and premises that have a rule's form, with room below 2^32: the rule's constant at
-/// them proves the conclusion.
+/// States that a rule's constant, applied to parameters and premises that have the rule's form,
+/// proves the conclusion, if variables stay below 2^32.
 pub fn conclusion_laws()
     ensures { (sig : Const → Option Tree) (t : TableView) (hyps params : List ℕ) (n : ℕ) (r : Rule)
         (premises : List Sequent) → rule_at n ≡ Some r → sig (Num n) ≡ Some (rule_type r)

@@ -59,7 +59,7 @@ fn relation(table: &mut Table, rel: Rel, a: u64, b: u64) -> Result<Id, AllocErro
     app2(table, rel_constant(rel), left, right)
 }
 
-/// That an operator of two words gives what it gives.
+/// The type of the evaluation of an operator at two words.
 fn evaluation(
     table: &mut Table,
     signature: WordSignature,
@@ -81,7 +81,7 @@ fn evaluation(
     Ok(Some(pf(table, equation)?))
 }
 
-/// That a relation of two words holds.
+/// The type of the fact that a relation of two words holds.
 fn fact(table: &mut Table, rel: u32, a: u64, b: u64) -> Result<Option<Id>, AllocError>
     ensures tree { IfOk result (Stands table.new (declared Sigma3 (Fact rel a b))) }
     ensures extends { Extends table.old table.new }
@@ -96,7 +96,7 @@ fn fact(table: &mut Table, rel: u32, a: u64, b: u64) -> Result<Option<Id>, Alloc
     Ok(Some(pf(table, formula)?))
 }
 
-/// That a relation of two words doesn't hold.
+/// The type of the denial of a relation of two words, which doesn't hold.
 fn denial(table: &mut Table, rel: u32, a: u64, b: u64) -> Result<Option<Id>, AllocError>
     ensures tree { IfOk result (Stands table.new (declared Sigma3 (Deny rel a b))) }
     ensures extends { Extends table.old table.new }
@@ -113,10 +113,10 @@ fn denial(table: &mut Table, rel: u32, a: u64, b: u64) -> Result<Option<Id>, All
     Ok(Some(pf(table, denied)?))
 }
 
-/// Answers the type of `constant` in the signature: None exactly where it has none, or the node is
-/// no constant.
+/// Returns the type of `constant` in the signature: None exactly if it has none or the node is no
+/// constant.
 ///
-/// Errors: want of memory alone; each id keeps its tree.
+/// Errors: out of memory alone; each id keeps its tree.
 pub(crate) fn word_type(
     table: &mut Table,
     signature: WordSignature,

@@ -1,15 +1,15 @@
 //! LF signatures: which type each constant has.
 //!
 //! The checker above is generic over [`Signature`] and uses its one call, `type_of`, with its laws:
-//! what a signature declares stays the same as the table grows, and each type is closed and well
+//! what a signature declares doesn't change as the table grows, and each type is closed and well
 //! formed over the constants before it. [`WordSignature`] is the signature of word arithmetic, in
-//! three lengths, each the beginning of the next. The definitions that all layers above share stand
-//! here: typing as derivations (`specs/Typing`), the same simply (`specs/Simply`) and as functions
-//! (`specs/Decide`), rules as data (`specs/Rules`), the table of all constants
-//! (`specs/Constants`), which rows that were written elsewhere are held against (`specs/Outside`),
-//! and what a signature of word arithmetic is (`specs/Known`). What builds proofs reads a rule's
-//! row by [`rule_at`]. Sources: Harper, Honsell and Plotkin, A Framework for Defining Logics, JACM
-//! 1993, section 2 (typing); Necula, Proof-Carrying Code, POPL 1997.
+//! three lengths; each is a prefix of the next. This crate also has the definitions that all layers
+//! above share: typing as derivations (`specs/Typing`), simple typing (`specs/Simply`), typing as
+//! functions (`specs/Decide`), rules as data (`specs/Rules`), the table of all constants
+//! (`specs/Constants`), rows from an independent implementation to compare it with
+//! (`specs/Outside`), and what a signature of word arithmetic is (`specs/Known`). Code that builds
+//! proofs reads a rule's row by [`rule_at`]. Sources: Harper, Honsell and Plotkin, A Framework for
+//! Defining Logics, JACM 1993, section 2 (typing); Necula, Proof-Carrying Code, POPL 1997.
 #![tactic(auto)]
 
 mod build;
@@ -42,8 +42,8 @@ pub use theorems::{
 };
 use word_ops::{Op, op_of};
 
-/// What gives constants their types. A signature may keep ids of a table, and its types may name
-/// their trees: so a call wants a table that holds what the signature keeps.
+/// A signature: it gives constants their types. It may store ids of a table, and its types may name
+/// their trees, so each call requires a table that holds these ids.
 pub trait Signature {
     // The table holds the ids that the signature keeps.
     ghost holds: { Self → TableView → Type 0 };
@@ -51,10 +51,10 @@ pub trait Signature {
     // The declared types, over the table's trees.
     ghost declares: { Self → TableView → Const → Option Tree };
 
-    /// Answers the type of `constant`: None exactly where the signature gives it none, or the node
-    /// is no constant.
+    /// Returns the type of `constant`: None exactly if the signature gives it none or the node is
+    /// no constant.
     ///
-    /// Errors: want of memory alone; each id keeps its tree.
+    /// Errors: out of memory alone; each id keeps its tree.
     fn type_of(&self, table: &mut Table, constant: Node) -> Result<Option<Id>, AllocError>
         requires { holds self.now table.old }
         ensures tree { IfOk result
@@ -72,8 +72,8 @@ pub trait Signature {
     ghost well_formed: { (s : Self) (t : TableView) → holds s t → IsSignature (declares s t) };
 }
 
-/// A signature of whose constants formulas are made as in word arithmetic, and whose others are
-/// rules of it.
+/// A signature with the formulas of word arithmetic, whose other constants are rules of word
+/// arithmetic.
 pub trait Known: Signature {
     // Words and the constants of formulas have their types, and each constant that has one has that
     // of the longest signature of word arithmetic.
@@ -82,7 +82,7 @@ pub trait Known: Signature {
 }
 
 /// A signature of word arithmetic: the first numbered constants of the table, the 64-bit words, and
-/// what is evaluated of operators and relations at two words. It keeps no ids.
+/// the evaluations of operators and relations at two words. It stores no ids.
 #[derive(Clone, Copy, Debug, PartialEq, Eq)]
 pub enum WordSignature {
     /// Constants 0 to 87, operators 0 to 10.
@@ -94,7 +94,7 @@ pub enum WordSignature {
 }
 
 impl WordSignature {
-    /// How many numbered constants there are.
+    /// Returns how many numbered constants there are.
     pub fn count(self) -> u32
         ensures { result ≡ size_of self }
     {
@@ -105,7 +105,7 @@ impl WordSignature {
         }
     }
 
-    /// How many parameters each numbered constant has, which weights go by.
+    /// Returns how many parameters each numbered constant has; weights go by these counts.
     pub fn places(self) -> Places
         ensures { counts_of result ≡ places_of self }
     {
@@ -127,8 +127,8 @@ impl WordSignature {
         }
     }
 
-    /// Answers the operator that evaluations name by `number`: None where it is none of the
-    /// signature's.
+    /// Returns the operator that evaluations name by `number`: None if the signature has no such
+    /// operator.
     pub fn op(self, number: u32) -> Option<Op>
         ensures { result ≡ op_in self number }
     {
@@ -160,10 +160,9 @@ impl Known for WordSignature {
     ghost known = { λ s t h. declared_known s };
 }
 
-/// Answers the type of `constant` in `sig`: None exactly where it has none, or the node is no
-/// constant.
+/// Returns the type of `constant` in `sig`: None exactly if it has none or the node is no constant.
 ///
-/// Errors: want of memory alone; each id keeps its tree.
+/// Errors: out of memory alone; each id keeps its tree.
 pub fn declared<S: Signature>(
     table: &mut Table,
     sig: &S,

@@ -245,7 +245,7 @@ static CONSTANTS: [Constant; 35] = [
     },
 ];
 
-/// The constants 0 to 26, of which formulas are made.
+/// Returns the constants 0 to 26, which formulas are made of.
 pub fn constants() -> &'static [Constant]
     ensures { map constant_type result.now ≡ constant_types }
 {
@@ -321,7 +321,7 @@ static CONNECTIVES: [Rule; 11] = [
     },
 ];
 
-/// The rules 27 to 37: the connectives.
+/// Returns the rules 27 to 37: the connectives.
 pub fn connectives() -> &'static [Rule]
     ensures { map rule_of result.now ≡ take 11 (drop 0 the_rules) }
 {
@@ -379,7 +379,7 @@ static QUANTIFIERS: [Rule; 8] = [
     },
 ];
 
-/// The rules 38 to 45: quantifiers, equality and memories.
+/// Returns the rules 38 to 45: quantifiers, equality and memories.
 pub fn quantifiers() -> &'static [Rule]
     ensures { map rule_of result.now ≡ take 8 (drop 11 the_rules) }
 {
@@ -486,7 +486,7 @@ static ARITHMETIC: [Rule; 13] = [
     },
 ];
 
-/// The rules 46 to 58: equations and alignment of words.
+/// Returns the rules 46 to 58: equations and alignment of words.
 pub fn arithmetic() -> &'static [Rule]
     ensures { map rule_of result.now ≡ take 13 (drop 19 the_rules) }
 {
@@ -587,7 +587,7 @@ static ORDER: [Rule; 14] = [
     },
 ];
 
-/// The rules 59 to 72: the order of words.
+/// Returns the rules 59 to 72: the order of words.
 pub fn order() -> &'static [Rule]
     ensures { map rule_of result.now ≡ take 14 (drop 32 the_rules) }
 {
@@ -687,7 +687,7 @@ static COMPARISONS: [Rule; 15] = [
     },
 ];
 
-/// The rules 73 to 87: the operators that compare.
+/// Returns the rules 73 to 87: the operators that compare.
 pub fn comparisons() -> &'static [Rule]
     ensures { map rule_of result.now ≡ take 15 (drop 46 the_rules) }
 {
@@ -763,23 +763,23 @@ static LATER: [Rule; 9] = [
     },
 ];
 
-/// The rules 96 to 104: the later operators, and a difference from below.
+/// Returns the rules 96 to 104: the later operators, and a lower bound of a difference.
 pub fn later() -> &'static [Rule]
     ensures { map rule_of result.now ≡ drop 61 the_rules }
 {
     &LATER
 }
 
-/// Where a numbered constant stands.
+/// The table that has a numbered constant, and its index there.
 #[derive(Clone, Copy)]
 pub enum Place {
-    /// Among those of which formulas are made.
+    /// The constants that formulas are made of.
     Made(u32),
-    /// Among the rules.
+    /// The rules.
     ByRule(u32),
 }
 
-/// The place of the constant of this number.
+/// Returns the place of the constant with this number.
 pub fn place_of(number: u32) -> Place
     ensures { result ≡ place_of number }
 {
@@ -802,7 +802,7 @@ fn entry(rules: &'static [Rule], index: usize) -> Option<&'static Rule>
     rules.get(index)
 }
 
-/// The rule at a place among the rules.
+/// Returns the rule at an index of the table of rules.
 pub fn rule_in(index: u32) -> Option<&'static Rule>
     ensures { option_map (λ r. rule_of r.now) result ≡ at the_rules index }
 {
@@ -817,8 +817,8 @@ pub fn rule_in(index: u32) -> Option<&'static Rule>
     }
 }
 
-/// Answers the rule of the constant of this number: None of those of which formulas are made, and
-/// past 104.
+/// Returns the rule of the constant with this number: None if formulas are made of the constant,
+/// and past 104.
 pub fn rule_at(number: u32) -> Option<&'static Rule>
     ensures { option_map (λ r. rule_of r.now) result ≡ rule_at number }
 {
@@ -828,7 +828,7 @@ pub fn rule_at(number: u32) -> Option<&'static Rule>
     }
 }
 
-/// The type of a constant of which formulas are made, by its place.
+/// Returns the type of a constant that formulas are made of, by its index in their table.
 pub fn constant_in(index: u32) -> Option<&'static Constant>
     ensures { option_map (λ c. constant_type c.now) result ≡ at constant_types index }
 {

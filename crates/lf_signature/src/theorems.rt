@@ -1,4 +1,4 @@
-//! What holds of the definitions, with nothing to run.
+//! Theorems about the definitions; their functions run nothing.
 
 ghost use Rattle.std.specs.Prelude.{◌≡◌, ◌<◌, ◌≤◌, ◌↔◌, ℕ, true, Option, Some, List, []};
 ghost use Rattle.std.specs.Prelude.{length, map, get_or};
@@ -25,8 +25,8 @@ ghost use Rattle.lf_signature.specs.Outside.{numbered_rows, evaluated_rows, AreD
 ghost use Rattle.lf_signature.specs.Worked.{AreVerdicts};
 ghost use Rattle.lf_signature.specs.Order.{IsSignature};
 
-/// The functions of typing decide its derivations, over any signature; a term synthesises at most
-/// one type.
+/// States that the functions of typing decide its derivations, over any signature, and that a term
+/// synthesises at most one type.
 pub fn typing_laws()
     ensures checks { (sig : Const → Option Tree) (ctx : List Tree) (m a : Tree) →
         Checks sig ctx m a ↔ (checks_of sig m ctx a ≡ true) }
@@ -40,8 +40,8 @@ pub fn typing_laws()
         IsType sig ctx a ↔ (is_type_of sig a ctx ≡ true) }
 {}
 
-/// Verdicts on a tree depend on the nearest types alone, as many as its variables reach: contexts
-/// that agree on the `n` nearest give a tree over `n` variables the same verdicts.
+/// States that typing a tree depends only on the nearest types that its variables reach. Contexts
+/// that agree on the `n` nearest types give a tree over `n` variables equal results.
 pub fn near_laws()
     ensures checks { (sig : Const → Option Tree) (n : ℕ) (ctx other : List Tree) (m a : Tree) →
         is_over n m ≡ true → AgreeOnNearest n ctx other →
@@ -57,8 +57,8 @@ pub fn near_laws()
         is_type_of sig a ctx ≡ is_type_of sig a other }
 {}
 
-/// What is derived is derived by the simple rules at the erased types, and has no variables but
-/// those of its context.
+/// States that every typing derivation has a derivation by the simple rules at the erased types,
+/// and that a typed tree has no variables but those of its context.
 pub fn simple_laws()
     ensures checks { (sig : Const → Option Tree) (ctx : List Tree) (m a : Tree) →
         Checks sig ctx m a → SChecks (simply sig) (erased ctx) m (erase a) }
@@ -72,9 +72,9 @@ pub fn simple_laws()
         IsType sig ctx a → is_over (length ctx) a ≡ true }
 {}
 
-/// Each type that a signature of word arithmetic declares is closed and well formed over the
-/// constants before it, and simply well formed; a rule's constant has the rule's type; a longer
-/// signature has what a shorter one has; operators and relations are found again by their numbers
+/// States that each type declared by a signature of word arithmetic is closed, well formed over the
+/// constants before it, and simply well formed. A rule's constant has the rule's type. A longer
+/// signature has what a shorter one has. Operators and relations are found again by their numbers
 /// and by their constants.
 pub fn signature_laws()
     ensures formed { (s : WordSignature) → IsSignature (declared s) }
@@ -93,9 +93,10 @@ pub fn signature_laws()
         (rel_of_constant c ≡ Some r) ↔ (rel_constant r ≡ c) }
 {}
 
-/// The types of the signature are those that a second, independent implementation writes out: of
-/// every number, none past 104, with how many parameters its constant has; and of worked constants
-/// at words. Worked terms and types have the verdicts over it that they have by hand.
+/// States that the declared types are those that a second, independent implementation writes out:
+/// of every number, none past 104, with how many parameters its constant has; and of worked
+/// evaluations at words. Worked terms and types have over the signature the verdicts that they have
+/// by hand.
 pub fn declared_rows()
     ensures numbered { (n : ℕ) →
         declared Sigma3 (Num n) ≡ option_map (λ r. r.1) (at numbered_rows n) }
@@ -104,8 +105,8 @@ pub fn declared_rows()
     ensures verdicts { AreVerdicts (declared Sigma1) }
 {}
 
-/// The counts that weights go by are the signatures': how many parameters each numbered constant
-/// has.
+/// States that the counts that weights go by are the signatures': how many parameters each numbered
+/// constant has.
 pub fn places_laws()
     ensures { (s : WordSignature) (n : ℕ) → n < size_of s →
         get_or (places_of s) n 0 ≡ parameters_of n }

@@ -1,4 +1,4 @@
-//! Proofs checked at formulas.
+//! Checks proofs against formulas.
 
 ghost use Rattle.std.specs.Prelude.{◌≡◌, ◌↔◌, [], IfOk, IfSome, IsTrue};
 ghost use Rattle.term_table.specs.Table.{TableView, IsKnown, tree_at, Extends};
@@ -19,7 +19,7 @@ use lf_signature::{Known, Signature, WordSignature, pf};
 use std::alloc::AllocError;
 use term_table::{Id, Node, Table};
 
-/// A signature of word arithmetic of whose further constants each is a proof of a formula that is
+/// A signature of word arithmetic in which each further constant is a proof of a formula that is
 /// true in every structure.
 pub trait Truthful: Known {
     // Each type is one of word arithmetic's, or that of the proofs of a valid formula.
@@ -31,12 +31,12 @@ impl Truthful for WordSignature {
     ghost given = { λ s t h c a e. listed (IsKnownSignature.within (declared_known s) c a e) };
 }
 
-/// Answers whether the term `proof` is a proof, over `sig`, of the formula that the term `goal`
-/// encodes: true exactly where it checks at the type of the proofs of `goal`. Where it does, and
+/// Returns whether the term `proof` is a proof, over `sig`, of the formula that the term `goal`
+/// encodes: true exactly if it checks against the type of the proofs of `goal`. If it does, and
 /// `goal` encodes a closed formula, that formula is true in every structure.
 ///
-/// Errors: want of memory alone, which more than `MOST_RESULTS` results and judgements, counted
-/// together, are too; each id keeps its tree.
+/// Errors: out of memory alone, also if more than `MOST_RESULTS` results and judgements, counted
+/// together, would be cached; each id keeps its tree.
 pub fn prove_true<S: Truthful>(
     table: &mut Table,
     sig: &S,
@@ -57,7 +57,11 @@ pub fn prove_true<S: Truthful>(
     Ok(prove_true_with(table, &mut kept, sig, proof, goal)?)
 }
 
-/// `prove_true`, with what `kept` has of earlier calls on the table over the signature.
+/// Returns whether the term `proof` is a proof, over `sig`, of the formula that the term `goal`
+/// encodes, as `prove_true` does. `kept` has the cached results of earlier calls on the table over
+/// the signature.
+///
+/// Errors: out of memory, or the limit of `kept` is reached; each id keeps its tree.
 pub fn prove_true_with<S: Truthful>(
     table: &mut Table,
     kept: &mut Kept,
@@ -82,7 +86,7 @@ pub fn prove_true_with<S: Truthful>(
     check_term_with(table, kept, sig, &[], proof, proofs)
 }
 
-/// The formula of a type of proofs; None where the type is none.
+/// The formula of a type of proofs; None if the type isn't one.
 fn formula_of(table: &Table, proofs: Id) -> Option<Id>
     requires { IsKnown table.now proofs }
     ensures { IsResult table.now (λ g. tree_at table.now proofs ≡ pf g) result }
@@ -96,14 +100,14 @@ fn formula_of(table: &Table, proofs: Id) -> Option<Id>
     }
 }
 
-/// The formula that the term `proof` proves over `sig`, which may be any signature: None exactly
-/// where it checks at the type of the proofs of no formula. It is found before any formula is
-/// known, and costs what the check of the proof costs. Whether what is proved is true is another
-/// question, which hangs on the signature (`proved_formula_with`).
+/// Returns the formula that the term `proof` proves over `sig`, which may be any signature: None
+/// exactly if the term checks against the type of the proofs of no formula. The caller needs no
+/// formula beforehand; the call costs what checking the proof costs. Whether the proved formula is
+/// true depends on the signature (`proved_formula_with`).
 ///
-/// `kept` has what earlier calls on the table over the signature kept.
+/// `kept` has the cached results of earlier calls on the table over the signature.
 ///
-/// Errors: want of memory, and `Exhausted::Results` past the limit of `kept`; each id keeps its
+/// Errors: out of memory, and `Exhausted::Results` past the limit of `kept`; each id keeps its
 /// tree.
 pub fn proved_with<S: Signature>(
     table: &mut Table,
@@ -126,13 +130,14 @@ pub fn proved_with<S: Signature>(
     }
 }
 
-/// The formula that the term `proof` proves over `sig`: None exactly where it checks at the type of
-/// the proofs of no formula. Where the formula encodes a closed one, that is true in every
-/// structure. It is found before any formula is known, and costs what the check of the proof costs.
+/// Returns the formula that the term `proof` proves over `sig`: None exactly if the term checks
+/// against the type of the proofs of no formula. If the result encodes a closed formula, that
+/// formula is true in every structure. The caller needs no formula beforehand; the call costs what
+/// checking the proof costs.
 ///
-/// `kept` has what earlier calls on the table over the signature kept.
+/// `kept` has the cached results of earlier calls on the table over the signature.
 ///
-/// Errors: want of memory, and `Exhausted::Results` past the limit of `kept`; each id keeps its
+/// Errors: out of memory, and `Exhausted::Results` past the limit of `kept`; each id keeps its
 /// tree.
 pub fn proved_formula_with<S: Truthful>(
     table: &mut Table,

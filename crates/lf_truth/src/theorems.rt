@@ -1,4 +1,4 @@
-//! What holds of the signature of word arithmetic, with nothing to run.
+//! Theorems about the signature of word arithmetic; their functions run nothing.
 
 ghost use Rattle.std.specs.Prelude.{◌≡◌, ◌↔◌, ℕ, Option, Some, [], true};
 ghost use Rattle.std.specs.Option.{option_map};
@@ -17,11 +17,12 @@ ghost use Rattle.lf_truth.specs.Validity.{IsTrueType, AreGivenTypes};
 ghost use Rattle.lf_truth.specs.RuleSorts.{is_sorted};
 ghost use Rattle.lf_truth.specs.RuleTruth.{IsTrueRule};
 
-/// Over a lawful signature of word arithmetic a closed formula that has a proof is valid; so
-/// falsity has none. The rule of each number in the table of rules is true for all values of its
-/// parameters, each of which stands where its sort may stand, and the constants that are rules have
-/// the types of these rules; the types of evaluations, facts and denials are those of the proofs of
-/// valid formulas. Over the empty context a closed formula's encoding is the plain one.
+/// States that over a well-formed signature of word arithmetic a closed formula that has a proof is
+/// valid, so falsity has no proof. The rule of each number in the table of rules is true for all
+/// values of its parameters, and each parameter is used only as its sort allows. The constants that
+/// are rules have the types of these rules; the types of evaluations, facts and denials are those
+/// of the proofs of valid formulas. Over the empty context the encoding of a closed formula is the
+/// encoding without a context.
 pub fn truth_laws()
     ensures sound { (sig : Const → Option Tree) → IsSignature sig → AreGivenTypes sig →
         IsSoundSignature sig }

@@ -1,4 +1,4 @@
-//! Which relations are proved by the normal forms of their expressions.
+//! Decides which relations are proved by the normal forms of their expressions.
 
 ghost use Rattle.std.specs.Prelude.{◌≡◌, is_some};
 ghost use Rattle.term_table.specs.Table.{IsKnown, tree_at};
@@ -12,7 +12,7 @@ use formula_ids::{ExpNode, exp_node};
 use term_table::{Id, Table};
 use word_ops::{Rel, holds};
 
-/// The word that the expression is, else none.
+/// Returns the word that the expression is, else None.
 pub fn word_at(table: &Table, e: Id) -> Option<u64>
     requires { IsKnown table.now e }
     ensures { (x : Exp) → tree_at table.now e ≡ exp_encoding x → result ≡ word_in x }
@@ -60,8 +60,8 @@ fn is_of_equals(table: &Table, rel: Rel, p: Id, q: Id) -> bool
     }
 }
 
-/// Whether the relation of two expressions is proved by their normal forms `p` and `q`: if these are
-/// words of which it holds, or if they are one and it is equality.
+/// Returns whether the normal forms `p` and `q` of two expressions prove the relation between them:
+/// if they are words of which it holds, or if they are equal and the relation is equality.
 pub fn is_by_forms(table: &Table, rel: Rel, p: Id, q: Id) -> bool
     requires p { IsKnown table.now p }
     requires q { IsKnown table.now q }

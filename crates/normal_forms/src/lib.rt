@@ -1,11 +1,11 @@
-//! Normal forms of expressions alone, without proofs, on ids of a table.
+//! Computes normal forms of expressions, without proofs, and chooses rewriting rules.
 //!
-//! The layer above uses that `plain_form` answers the expression that the class's normal form is
-//! (`prover_class`, `specs/NormalForms`), with no equation made; that `rule_at` gives the rule by which
-//! an operator at two operands is rewritten (`specs/Rules`); and that `is_by_forms` says whether a
-//! relation of two expressions is proved by their normal forms. So what is proved is known before a
-//! proof is made. Normal forms that were found are kept by the expression's id, so a shared expression
-//! has its own found once; only expressions of at most 64 leaves are rewritten. Source: Necula,
+//! The layer above uses three calls. `plain_form` returns the normal form that `prover_class`
+//! defines (`specs/NormalForms`), and builds no equation. `rule_at` returns the rule by which an
+//! operator with two operands is rewritten (`specs/Rules`). `is_by_forms` returns whether the
+//! normal forms of two expressions prove a relation between them. So whether there is a proof is
+//! known before it is built. Normal forms are cached by the expression's id, so a shared
+//! expression's is found once; only expressions of at most 64 leaves are rewritten. Source: Necula,
 //! Proof-Carrying Code, POPL 1997 (the rules of arithmetic).
 #![tactic(auto)]
 

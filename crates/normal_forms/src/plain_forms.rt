@@ -1,7 +1,6 @@
-//! Normal forms of expressions, found round by round.
+//! Finds normal forms of expressions, in rounds.
 //!
-//! Errors: want of memory alone, which more results than the memo may keep are too; each id keeps
-//! its tree.
+//! Errors: out of memory, or the limit of the memo is reached; each id keeps its tree.
 
 ghost use Rattle.std.specs.Prelude.{◌≡◌, ◌≤◌, ◌<◌, ℕ, min, IfOk, IfSome, OnOk};
 ghost use Rattle.term_table.specs.Table.{IsKnown, tree_at, Extends};
@@ -23,7 +22,7 @@ use std::alloc::AllocError;
 use term_table::{Id, Table};
 use word_ops::Op;
 
-/// An expression whose normal form is asked for, and how many binders stand outside.
+/// A cache key: an expression, and how many binders are outside it.
 #[derive(Clone, Copy, PartialEq, Eq, PartialOrd, Ord)]
 pub struct ExpAt {
     id: u64,
@@ -44,11 +43,11 @@ impl Question for ExpAt {
     ghost lasts = { λ _ t u place form e _ h. plain-lasts t u place form e h };
 }
 
-/// Normal forms that were found, by expression and number of binders outside. They count in the
-/// limit of a `Memo`.
+/// Cached normal forms, by expression and number of binders outside. They count in the limit of a
+/// `Memo`.
 pub type PlainForms = Kept<ExpAt>;
 
-/// How many expressions without parts stand in the expression, counted up to `most`.
+/// Returns the number of leaves of the expression, at most `most`.
 pub fn leaves_up_to(table: &Table, e: Id, most: u32) -> u32
     requires { IsKnown table.now e }
     ensures within { result ≤ most }
@@ -71,7 +70,7 @@ pub fn leaves_up_to(table: &Table, e: Id, most: u32) -> u32
     }
 }
 
-/// What the rule gives of the operator `op` at `a` and `b`; none where there is no rule.
+/// What the rule gives for the operator `op` at `a` and `b`; None if there is no rule.
 fn given_by(table: &mut Table, rule: Rule, op: Op, a: Id, b: Id) -> Result<Option<Id>, AllocError>
     requires rule { IsKnownRule table.old rule }
     requires a { IsKnown table.old a }
@@ -97,8 +96,8 @@ fn given_by(table: &mut Table, rule: Rule, op: Op, a: Id, b: Id) -> Result<Optio
     }
 }
 
-/// The expression after one round, in which the first node that has a rule is rewritten; none where
-/// no node has one.
+/// The expression after one round, in which the first node that has a rule is rewritten; None if no
+/// node has one.
 #[cycle(rounds)]
 fn after_round(table: &mut Table, outside: u32, e: Id) -> Result<Option<Id>, AllocError>
     requires e { IsKnown table.old e }
@@ -113,8 +112,8 @@ fn after_round(table: &mut Table, outside: u32, e: Id) -> Result<Option<Id>, All
     }
 }
 
-/// The same of the operator at `a` and `b`, which is `e`: of its parts, the left one first, else of
-/// the operator itself.
+/// The operator at `a` and `b`, which is `e`, after one round: in its parts, the left one first,
+/// else by the rule of the operator itself; None if no node has a rule.
 #[cycle(rounds)]
 fn after_round_in(
     table: &mut Table,
@@ -171,7 +170,7 @@ fn after_rounds(table: &mut Table, outside: u32, rounds: u32, e: Id) -> Result<I
     Ok(now)
 }
 
-/// The normal form, where none is kept.
+/// The normal form, if none is cached.
 fn fresh_form(table: &mut Table, outside: u32, e: Id) -> Result<Id, AllocError>
     requires { IsKnown table.old e }
     ensures known { IfOk result (IsKnown table.new) }
@@ -185,11 +184,11 @@ fn fresh_form(table: &mut Table, outside: u32, e: Id) -> Result<Id, AllocError>
     after_rounds(table, outside, 65_536, e)
 }
 
-/// The normal form of the expression `e`, where `outside` binders stand outside, without a proof that
-/// they are equal. The outermost binder is that of the steps that are left; where none are counted it
-/// isn't there, and counts all the same.
+/// Returns the normal form of the expression `e`, which is under `outside` binders, without a proof
+/// that they are equal. The outermost binder is that of the remaining steps; if no steps are
+/// counted, it doesn't exist but is counted in `outside` all the same.
 ///
-/// Errors: want of memory alone, which more results than the memo may keep are too.
+/// Errors: out of memory, or the limit of `memo` is reached.
 #[tactic(auto, using(crate::proofs::Growing::plain))]
 pub fn plain_form(
     table: &mut Table,

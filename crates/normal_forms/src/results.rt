@@ -1,6 +1,6 @@
-//! What the rules give, made in a table.
+//! Builds the results of the rewriting rules in a table.
 //!
-//! Errors: want of memory alone; each id keeps its tree.
+//! Errors: out of memory alone; each id keeps its tree.
 
 ghost use Rattle.std.specs.Prelude.{◌≡◌, IfOk};
 ghost use Rattle.term_table.specs.Table.{IsKnown, tree_at, Extends};
@@ -15,7 +15,7 @@ use std::alloc::AllocError;
 use term_table::{Id, Node, Table};
 use word_ops::{Op, apply};
 
-/// The word that the operator gives of two words.
+/// Builds the word that the operator gives at two words.
 pub fn value_of(table: &mut Table, op: Op, v: u64, w: u64) -> Result<Id, AllocError>
     ensures exact { IfOk result (IsIdOf table.new (exp_encoding (ELit (word_of op v w)))) }
     ensures extends { Extends table.old table.new }
@@ -23,7 +23,7 @@ pub fn value_of(table: &mut Table, op: Op, v: u64, w: u64) -> Result<Id, AllocEr
     table.intern(Node::Lit(apply(op, v, w)))
 }
 
-/// The word 0.
+/// Builds the word 0.
 pub fn zero_word(table: &mut Table) -> Result<Id, AllocError>
     ensures exact { IfOk result (IsIdOf table.new (exp_encoding (ELit 0))) }
     ensures extends { Extends table.old table.new }
@@ -31,7 +31,7 @@ pub fn zero_word(table: &mut Table) -> Result<Id, AllocError>
     table.intern(Node::Lit(0))
 }
 
-/// The difference of `a` and `b`, as the sum with what is negative.
+/// Builds the difference of `a` and `b` as the sum of `a` and the negated `b`.
 pub fn negated_sum(table: &mut Table, a: Id, b: Id) -> Result<Id, AllocError>
     requires a { IsKnown table.old a }
     requires b { IsKnown table.old b }
@@ -46,7 +46,7 @@ pub fn negated_sum(table: &mut Table, a: Id, b: Id) -> Result<Id, AllocError>
     oper(table, Op::Add, a, negative)
 }
 
-/// The sum of `a` with the sum of `b` and `c`.
+/// Builds the sum of `a` with the sum of `b` and `c`.
 pub fn regrouped_sum(table: &mut Table, a: Id, b: Id, c: Id) -> Result<Id, AllocError>
     requires a { IsKnown table.old a }
     requires b { IsKnown table.old b }
@@ -61,7 +61,7 @@ pub fn regrouped_sum(table: &mut Table, a: Id, b: Id, c: Id) -> Result<Id, Alloc
     oper(table, Op::Add, a, inner)
 }
 
-/// The sum of `a` and `b` with its operands exchanged.
+/// Builds the sum of `a` and `b` with its operands exchanged.
 pub fn swapped_sum(table: &mut Table, a: Id, b: Id) -> Result<Id, AllocError>
     requires a { IsKnown table.old a }
     requires b { IsKnown table.old b }
@@ -74,7 +74,7 @@ pub fn swapped_sum(table: &mut Table, a: Id, b: Id) -> Result<Id, AllocError>
     oper(table, Op::Add, b, a)
 }
 
-/// The sum of `a`, shifted to the left by `count` bits, and `b`.
+/// Builds the sum of `a`, shifted to the left by `count` bits, and `b`.
 pub fn scaled_sum(table: &mut Table, a: Id, b: Id, count: u64) -> Result<Id, AllocError>
     requires a { IsKnown table.old a }
     requires b { IsKnown table.old b }
@@ -89,7 +89,7 @@ pub fn scaled_sum(table: &mut Table, a: Id, b: Id, count: u64) -> Result<Id, All
     oper(table, Op::Add, shifted, b)
 }
 
-/// `a` with the bits of `b` cleared, as the bitwise and with the complement.
+/// Builds `a` with the bits of `b` cleared, as a bitwise and with the complement of `b`.
 pub fn cleared_bits(table: &mut Table, a: Id, b: Id) -> Result<Id, AllocError>
     requires a { IsKnown table.old a }
     requires b { IsKnown table.old b }

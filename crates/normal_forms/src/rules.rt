@@ -1,4 +1,4 @@
-//! The choice of the rule by which an operator at two operands is rewritten.
+//! Chooses the rule by which an operator with two operands is rewritten.
 
 ghost use Rattle.std.specs.Prelude.{◌≡◌};
 ghost use Rattle.term_table.specs.Table.{IsKnown, tree_at};
@@ -31,36 +31,35 @@ enum Summand {
     Other,
 }
 
-/// The rule by which an operator at two operands is rewritten.
+/// The rule by which an operator with two operands is rewritten.
 #[derive(Clone, Copy)]
 pub enum Rule {
-    /// There is none.
+    /// No rule.
     Nothing,
-    /// The operands are these words: to what the operator gives of them.
+    /// The operands are these words: rewrite to what the operator gives at them.
     Value(u64, u64),
-    /// The difference to the sum with what is negative.
+    /// Rewrite the difference to the sum with the negated second operand.
     Negated,
-    /// To the first operand, by the rule of this number.
+    /// Rewrite to the first operand, by the inference rule with this number.
     First(u32),
-    /// To the second operand.
+    /// Rewrite to the second operand.
     Second(u32),
-    /// The first operand is a sum of these: to the sum with their second inside.
+    /// The first operand is a sum of these: add the second operand to their second.
     Regrouped(Id, Id),
-    /// The second operand is a sum of these: to the sum that begins with their first.
+    /// The second operand is a sum of these: rewrite to the sum that begins with their first.
     Turned(Id, Id),
-    /// The operands change places.
+    /// Exchange the operands.
     Swapped,
-    /// To the sum of the first operand, shifted to the left by so many bits, and the second; by the
-    /// rule of this number.
+    /// Rewrite to the sum of the first operand, shifted to the left by this many bits, and the
+    /// second; by the inference rule with this number.
     Scaled(u32, u64),
-    /// Bits cleared: to the bitwise and with the complement.
+    /// Rewrite cleared bits to the bitwise and with the complement.
     Complemented,
-    /// The operands of an exclusive or are one: to 0.
+    /// The operands of an exclusive or are equal: rewrite to 0.
     Cancelled,
 }
 
-/// The order of summands, where `outside` binders stand outside, the steps' that are left among
-/// them.
+/// The order of summands under `outside` binders, the binder of the remaining steps among them.
 fn summand_key(table: &Table, outside: u32, e: Id) -> u32
     requires { IsKnown table.now e }
     ensures { (x : Exp) → tree_at table.now e ≡ exp_encoding x →
@@ -81,7 +80,7 @@ fn summand_key(table: &Table, outside: u32, e: Id) -> u32
     }
 }
 
-/// What the operator at two operands is as an operand.
+/// The operator at two operands, as an operand.
 fn applied_summand(op: Op, a: Id, b: Id) -> Summand
     ensures { result ≡ applied_summand op a b }
 {
@@ -91,7 +90,7 @@ fn applied_summand(op: Op, a: Id, b: Id) -> Summand
     }
 }
 
-/// What the operand is.
+/// The kind of an operand.
 fn operand(table: &Table, e: Id) -> Summand
     requires { IsKnown table.now e }
     ensures known { IsKnownSummand table.now result }
@@ -167,8 +166,8 @@ fn rule_before(op: Op, first: Summand, turn: Option<(Id, Id)>, comes: bool, same
     }
 }
 
-/// The rule by which the operator `op` at the operands `a` and `b` is rewritten, where `outside`
-/// binders stand outside, that of the steps that are left among them.
+/// Returns the rule by which the operator `op` at the operands `a` and `b` is rewritten under
+/// `outside` binders, the binder of the remaining steps among them.
 pub fn rule_at(table: &Table, outside: u32, op: Op, a: Id, b: Id) -> Rule
     requires a { IsKnown table.now a }
     requires b { IsKnown table.now b }

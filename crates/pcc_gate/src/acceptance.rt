@@ -1,4 +1,4 @@
-//! What is accepted.
+//! Accepted code, and what acceptance promises.
 
 ghost use Rattle.std.specs.Prelude.{◌≡◌};
 ghost use Rattle.std.specs.List.{AllByRecursion};
@@ -14,8 +14,8 @@ use policy_set::Policy;
 use std::marker::Model;
 use term_table::{Id, Table};
 
-/// Code that was accepted under a policy. Contracts see the policy, the bound of its steps, the
-/// code with its flags, and the invariants as ids of the table.
+/// Code that was accepted under a policy. Contracts see the policy, the step bound, the code with
+/// its flags, and the invariants as ids of the table.
 #[derive(Drop)]
 pub struct Accepted {
     pub(crate) policy: Policy,
@@ -50,22 +50,22 @@ impl Model for Accepted {
 }
 
 impl Accepted {
-    /// The policy that it was accepted under.
+    /// Returns the policy that the code was accepted under.
     pub fn policy(&self) -> &Policy
         ensures { result.now ≡ self.now.policy }
     {
         &self.policy
     }
 
-    /// The most steps that the code makes, as its container says; `None` exactly where the
-    /// container's version isn't 3. Takes no memory.
+    /// Returns the step bound of the code, as its container gives it: `None` exactly if the
+    /// container's version isn't 3. Allocates nothing.
     pub fn bound(&self) -> Option<u32>
         ensures { result ≡ self.now.bound }
     {
         self.bound
     }
 
-    /// The code with its annotated indices.
+    /// Returns the code with its cut points.
     pub fn cut(&self) -> &Cut
         ensures code { result.now.code ≡ self.now.code }
         ensures marks { result.now.marks ≡ self.now.marks }
@@ -73,7 +73,7 @@ impl Accepted {
         &self.cut
     }
 
-    /// The table of the invariants' terms.
+    /// Returns the table of the invariants' terms.
     pub fn table(&self) -> &Table
         ensures value { result.now ≡ self.now.table }
         ensures known { AllByRecursion (λ inv. IsKnown result.now inv.1) self.now.invs }
@@ -81,17 +81,17 @@ impl Accepted {
         &self.table
     }
 
-    /// The annotated indices, each with its invariant, an id of the table.
+    /// Returns the cut points, as instruction indices, each with its invariant, an id of the table.
     pub fn invs(&self) -> &[(u32, Id)]
         ensures { result.now ≡ self.now.invs }
     {
         &self.invs
     }
 
-    /// What acceptance promises, with nothing to run: the code is safe for the policy, and where
-    /// its steps are bounded, it returns within the bound; the invariants encode formulas, which
-    /// annotate the code; and the verification condition of the policy, the bound, the code and
-    /// these formulas is true in every structure.
+    /// States what acceptance promises; runs nothing. The code is safe for the policy, and if its
+    /// steps are bounded, it returns within the bound. The invariants encode formulas, which
+    /// annotate the code. The verification condition of the policy, the bound, the code and these
+    /// formulas is true in every structure.
     pub fn laws(&self)
         ensures safe { IsSafe self.now.code self.now.policy.pre self.now.policy.post }
         ensures returns { ReturnsInBound self.now.policy self.now.bound self.now.code }

@@ -1,4 +1,4 @@
-//! The clauses before the proof, a function for each.
+//! The acceptance checks before the proof, a function for each.
 
 ghost use Rattle.std.specs.Prelude.{◌≡◌, ◌≤◌, ◌+◌, ◌<◌, ◌*◌, ◌%◌, [], ◌∷◌, length, drop, map, All, IfOk, IfSome, OnOk};
 ghost use Rattle.std.specs.Prelude.{replicate, slice_set};
@@ -37,7 +37,7 @@ use term_table::{Id, Node, Table};
 use vcgen::{MAX_HEIGHT, MAX_UNFOLDED};
 use word_ops::Profile;
 
-/// Clauses 1 to 3: the container in the bytes, which is for the policy.
+/// Acceptance checks 1 to 3: returns the container in the bytes, which is for the policy.
 pub(crate) fn container_for<'b>(
     alloc: Global,
     policy: &Policy,
@@ -64,7 +64,7 @@ pub(crate) fn container_for<'b>(
     }
 }
 
-/// Clause 4: the code that the bytes encode in the profile.
+/// Acceptance check 4: returns the code that the bytes encode in the profile.
 pub(crate) fn code_in(alloc: Global, bytes: &[u8], profile: Profile) -> Result<Code, GateFault>
     requires whole { length bytes.now % 4 ≡ 0 }
     requires some { 0 < length bytes.now }
@@ -78,7 +78,7 @@ pub(crate) fn code_in(alloc: Global, bytes: &[u8], profile: Profile) -> Result<C
     }
 }
 
-/// The height of the term, where it is past the limit.
+/// The height of the term, if it is past the limit.
 fn height_past(table: &Table, id: Id) -> Option<u32>
     requires { IsKnown table.now id }
     ensures { result ≡ option_map capped (too_high (tree_at table.now id ∷ [])) }
@@ -91,8 +91,8 @@ fn height_past(table: &Table, id: Id) -> Option<u32>
     }
 }
 
-/// Clause 5 behind the invariants: the height of the first term of a lemma, or of the proof, that
-/// is too high.
+/// Acceptance check 5 after the invariants: the height of the first term of a lemma, or of the
+/// proof, that is too high.
 fn later_too_high(table: &Table, lemmas: &[(Id, Id)], proof: Option<Id>) -> Option<u32>
     requires lemmas { LemmasKnown table.now lemmas.now }
     requires proof { IfSome proof (IsKnown table.now) }
@@ -116,7 +116,8 @@ fn later_too_high(table: &Table, lemmas: &[(Id, Id)], proof: Option<Id>) -> Opti
     }
 }
 
-/// Clause 5: the height of the first root, from this place of the invariants on, that is too high.
+/// Acceptance check 5: returns the height of the first root that is too high, from this index of
+/// the invariants on.
 pub(crate) fn first_too_high(
     table: &Table,
     invs: &[(u32, Id)],
@@ -149,7 +150,7 @@ fn machine_types(alloc: Global, word: Id, memory: Id) -> Result<Vec<Id>, AllocEr
     Ok(types)
 }
 
-/// The types of the steps that are left, m and r0 to r30.
+/// The types of the remaining steps, m and r0 to r30.
 fn left_types(alloc: Global, word: Id, memory: Id) -> Result<Vec<Id>, AllocError>
     ensures { IfOk result (λ ids. ids.items ≡ slice_set (replicate 33 word) 1 memory) }
 {
@@ -158,8 +159,10 @@ fn left_types(alloc: Global, word: Id, memory: Id) -> Result<Vec<Id>, AllocError
     Ok(types)
 }
 
-/// The types of what invariants of code with that bound are over: the steps that are left, where
-/// there is a bound, then m and r0 to r30. An error where memory is refused.
+/// Returns the types of the variables of invariants: the remaining steps, if `bound` is Some, then
+/// m and r0 to r30.
+///
+/// Errors: out of memory; each id keeps its tree.
 pub fn context_types(
     alloc: Global,
     table: &mut Table,
@@ -178,8 +181,8 @@ pub fn context_types(
     }
 }
 
-/// Whether the term has type form over the signature in the context of code with that bound, whose
-/// types are `context`.
+/// Whether the term is a well-typed formula over the signature in the context of code with that
+/// bound, whose types are `context`.
 fn has_form(
     table: &mut Table,
     kept: &mut Kept,
@@ -203,9 +206,11 @@ fn has_form(
     check_term_with(table, kept, &signature, context, id, form)
 }
 
-/// Clause 6: the first invariant, from this place on, that is no formula over the context of code
-/// with that bound in the signature; `context` is what `context_types` gives. An error where memory
-/// is refused, or no further result can be kept.
+/// Returns the number of the first invariant that fails acceptance check 6, from number `from` of
+/// `invs` on: that isn't a formula over the context of code with that bound in the signature. None
+/// if each is one. `context` is what `context_types` returns.
+///
+/// Errors: out of memory, or the limit of `kept` is reached; each id keeps its tree.
 pub fn first_formless(
     table: &mut Table,
     kept: &mut Kept,
@@ -238,7 +243,7 @@ pub fn first_formless(
     first_formless(table, kept, signature, bound, context, form, invs, from + 1)
 }
 
-/// Clause 13: each lemma's formula is one over no variables in the signature.
+/// Acceptance check 13: each lemma's formula is a formula over no variables in the signature.
 pub(crate) fn lemmas_formed(
     kept: &mut Kept,
     table: &mut Table,
@@ -258,7 +263,7 @@ pub(crate) fn lemmas_formed(
     }
 }
 
-/// The annotated indices.
+/// The cut points, as instruction indices.
 fn indices(alloc: Global, invs: &[(u32, Id)]) -> Result<Vec<u32>, AllocError>
     ensures { IfOk result (λ v. v.items ≡ map (λ p. p.0) invs.now) }
 {
@@ -269,7 +274,7 @@ fn indices(alloc: Global, invs: &[(u32, Id)]) -> Result<Vec<u32>, AllocError>
     Ok(indices)
 }
 
-/// Clause 7: the code with its annotated indices, where they cut it.
+/// Acceptance check 7: the code with its cut points, if every cycle contains one.
 pub(crate) fn cut_at(alloc: Global, code: Code, invs: &[(u32, Id)]) -> Result<Cut, GateFault>
     requires rising { IsStrictlyIncreasing (map (λ p. p.0) invs.now) }
     requires below { All (λ k. k < length code) (map (λ p. p.0) invs.now) }
@@ -283,7 +288,7 @@ pub(crate) fn cut_at(alloc: Global, code: Code, invs: &[(u32, Id)]) -> Result<Cu
     }
 }
 
-/// Clause 8: the unfolded length is within its limit.
+/// Acceptance check 8: the total length of the paths between cut points is within its limit.
 pub(crate) fn short(cut: &Cut) -> Result<(), GateFault>
     ensures { IsLengthAnswer cut.now.code cut.now.marks result }
 {

@@ -1,4 +1,4 @@
-//! Why the gate gives no answer of what it accepts.
+//! Why a call of the checker returns no accepted code.
 
 ghost use Rattle.std.specs.Prelude.{◌≡◌};
 
@@ -7,18 +7,18 @@ use lf_check::Exhausted;
 use std::alloc::AllocError;
 use thiserror::Error;
 
-/// Why bytes aren't passed on.
+/// Why bytes aren't accepted.
 #[derive(Clone, Copy, Debug, PartialEq, Eq, Error)]
 pub enum GateFault {
     /// The bytes are refused.
     #[error("refused: {0}")]
     Refused(Refusal),
-    /// There was no memory for the tests; that says nothing of the bytes but that they aren't too
-    /// many.
+    /// The call ran out of memory. That says nothing about the bytes but that they aren't too many.
     #[error("out of memory")]
     Memory,
-    /// More results would have been kept than the limit allows; that says nothing else either.
-    #[error("too many results")]
+    /// The call would have cached more results than the limit allows. That says nothing about the
+    /// bytes but that they aren't too many.
+    #[error("the check would cache too many results")]
     Results,
 }
 

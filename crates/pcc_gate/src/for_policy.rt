@@ -1,4 +1,4 @@
-//! Which containers are for a policy.
+//! Decides which containers are for a policy.
 
 ghost use Rattle.std.specs.Prelude.{◌≡◌, IfOk};
 ghost use Rattle.std.specs.Str.{bytes_eq};
@@ -15,9 +15,11 @@ fn same_digest(a: &[u8; 32], b: &[u8; 32]) -> bool
     a.as_slice() == b.as_slice()
 }
 
-/// Whether a container with this head is for the policy: the head has the policy's number, which a
-/// policy from a file hasn't, or the digest of its text. That digest is made where the head has
-/// one. Fails only for want of memory.
+/// Returns whether a container with this header field is for the policy: whether the field has the
+/// policy's number, which a policy from a file doesn't have, or the digest of its text. Computes
+/// that digest only if the field has one.
+///
+/// Errors: out of memory alone.
 pub fn is_for(alloc: Global, policy: &Policy, head: Head) -> Result<bool, AllocError>
     ensures exact { IfOk result (λ b. b ≡ is_for policy.now head) }
 {

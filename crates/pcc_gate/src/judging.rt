@@ -1,4 +1,4 @@
-//! The gate.
+//! The whole check of a container.
 
 ghost use Rattle.std.specs.Prelude.{IfOk};
 ghost use Rattle.proof_container.specs.Views.{contents_of};
@@ -20,7 +20,7 @@ use policy_set::Policy;
 use proof_container::signature_of;
 use std::alloc::Global;
 
-/// Clauses 9, 10, 14 and 11 of what passed those before.
+/// Acceptance checks 9, 10, 14 and 11 of a container that passed those before.
 fn judge(
     alloc: Global,
     kept: &mut Kept,
@@ -62,17 +62,19 @@ fn judge(
     })
 }
 
-/// What `bytes` hold, where they are accepted under `policy`: all clauses hold, the last of which
-/// is that the proof, with the lemmas that the container has, proves the verification condition of
-/// the policy, the bound, the code and the invariants. That is so exactly where it is with every
-/// lemma written out (`specs/WrittenOut`). Where the container has a bound, from every state at
-/// index 0 that meets the precondition, under whatever rights, a run of the code with a budget of
-/// at least the bound returns.
+/// Checks whether `bytes` are a container that is accepted under `policy`, and returns its code.
+/// All acceptance checks have to pass. The last one is that the proof, with the lemmas that the
+/// container has, proves the verification condition of the policy, the bound, the code and the
+/// invariants. It passes exactly if it does with every lemma inlined (`specs/WrittenOut`).
 ///
-/// Errors: `Refused` names the first clause that fails (`specs/First`), exactly where one does;
-/// `Memory` says nothing of `bytes`. The clauses are tried in their order. One memory of at most
+/// If the container has a step bound, the code returns within it: a run with a step limit of at
+/// least the bound returns. That holds from every state at index 0 that satisfies the precondition,
+/// under any access rights.
+///
+/// Errors: `Refused` names the first check that fails (`specs/First`), exactly if one does; the
+/// checks are tried in order. `Memory` says nothing about `bytes`. One cache of at most
 /// `MOST_RESULTS` results and judgements serves the invariants, the lemmas, the condition and the
-/// proof; past that the answer is `Results`.
+/// proof; past that the call returns `Results`.
 pub fn gate(alloc: Global, policy: &Policy, bytes: &[u8]) -> Result<Accepted, GateFault>
     ensures exact { IsGateAnswer policy.now bytes.now result }
     ensures written_out { IsWrittenOutAnswer policy.now bytes.now result }

@@ -1,15 +1,17 @@
-//! The gate: which containers are accepted under a policy, and why any other is refused.
+//! The container checker: accepts a container under a policy, or names the first failed check.
 //!
-//! The layers above use that `gate` accepts bytes exactly where all clauses hold, and else names
-//! the first that fails; `front` does the same of the clauses before the proof, `front_with_lemmas`
-//! of these and those of the lemmas alone; that what is accepted is so with every lemma written
-//! out; and that the code of what is accepted is safe, and returns within its bound where it has
-//! one (`Accepted::laws`, `laws`). Which container is for a policy stands in `specs/ForPolicy`,
-//! what its version decides in proof_container (`specs/Versions`). The clauses stand in
-//! `specs/Passing` and `specs/Accepted`, what is accepted with lemmas written out in
-//! `specs/WrittenOut`, what each refusal means in `specs/Refusals`, the first clause that fails as
-//! a function in `specs/First`, what the calls answer in `specs/Answers`, what is promised in
-//! `specs/Safe`. Source: Necula, Proof-Carrying Code, POPL 1997.
+//! The layers above use four facts. `gate` accepts bytes exactly if all acceptance checks pass, and
+//! else names the first that fails. `front` decides the checks before the proof in this way, and
+//! `front_with_lemmas` these checks and the checks of the lemmas alone. Whatever is accepted is
+//! also accepted with every lemma inlined. Accepted code is safe, and returns within its step bound
+//! if it has one (`Accepted::laws`, `laws`).
+//!
+//! `specs/ForPolicy` defines which container is for a policy; the dependence on the version is in
+//! proof_container (`specs/Versions`). The checks are in `specs/Passing` and `specs/Accepted`,
+//! acceptance with lemmas inlined in `specs/WrittenOut`, what each refusal means in
+//! `specs/Refusals`, the first check that fails as a function in `specs/First`, what the calls
+//! return in `specs/Answers`, and the safety promise in `specs/Safe`. Source: Necula,
+//! Proof-Carrying Code, POPL 1997.
 #![tactic(auto)]
 
 mod acceptance;

@@ -1,4 +1,4 @@
-//! The limits that the gate adds to those of the layers below.
+//! The limits that the checker adds to those of the layers below.
 
-/// The greatest weight of a proof.
+/// The greatest weight (unshared size) of a proof.
 pub const MAX_WEIGHT: u32 = 1_048_576;

@@ -1,4 +1,4 @@
-//! The clauses before the proof.
+//! The acceptance checks before the proof, in order.
 
 ghost use Rattle.std.specs.Prelude.{◌≤◌, ◌<◌, length, map, All, IfOk, OnOk};
 ghost use Rattle.std.specs.List.{AllByRecursion};
@@ -33,12 +33,12 @@ use proof_container::{Container, profile_of, signature_of};
 use std::alloc::Global;
 use term_table::{Id, Node, Table};
 
-/// What passed the clauses before the proof.
+/// A container that passed the acceptance checks before the proof.
 #[derive(Drop)]
 pub struct Passed<'b> {
     /// The container in the bytes. Its table may have more terms than the bytes.
     pub container: Container<'b>,
-    /// The code with its annotated indices.
+    /// The code with its cut points.
     pub cut: Cut,
 }
 
@@ -66,7 +66,7 @@ fn formed(
     }
 }
 
-/// Clauses 5, 6, 13, 7 and 8 in the signature: the code with its annotated indices.
+/// Acceptance checks 5, 6, 13, 7 and 8 in the signature: returns the code with its cut points.
 fn shaped(
     alloc: Global,
     kept: &mut Kept,
@@ -132,7 +132,7 @@ fn rest<'b>(
     Ok(Passed { container, cut })
 }
 
-/// The clauses before the proof, with what is kept of the judgements.
+/// The acceptance checks before the proof, with the cached judgements.
 pub(crate) fn pass<'b>(
     alloc: Global,
     kept: &mut Kept,
@@ -150,16 +150,16 @@ pub(crate) fn pass<'b>(
     }
 }
 
-/// The container in `bytes`, and its code with its annotated indices, where the clauses before the
-/// proof hold: the bytes are a container for `policy`, its code bytes are code, no term is too
-/// high, each invariant is a formula, which names the steps that are left only where these are
-/// bounded, each lemma's formula is one over no variables, the annotated indices cut the code, and
-/// its unfolded length is within the limit. The container's terms are its table's, whose weights go
-/// by the rules' parameters.
+/// Checks whether the acceptance checks before the proof pass, and returns the container in `bytes`
+/// with its code and cut points. The checks are: the bytes are a container for `policy`; its code
+/// is well formed; no term is too high; each invariant is a formula, which names the remaining
+/// steps only if these are bounded; each lemma's formula is one over no variables; every cycle
+/// contains a cut point; the total length of the paths between cut points is within the limit. The
+/// container's terms are its table's, whose weights go by the rules' parameters.
 ///
-/// Errors: `Refused` names the first of these clauses that fails (`specs/First`), exactly where one
-/// does; `Memory` says nothing of `bytes`. One memory of at most `MOST_RESULTS` results and
-/// judgements serves all invariants and the lemmas' formulas; past that the answer is `Results`.
+/// Errors: `Refused` names the first of these checks that fails (`specs/First`), exactly if one
+/// does. `Memory` says nothing about `bytes`. One cache of at most `MOST_RESULTS` results and
+/// judgements serves all invariants and the lemmas' formulas; past that the call returns `Results`.
 pub fn front<'b>(alloc: Global, policy: &Policy, bytes: &'b [u8]) -> Result<Passed<'b>, GateFault>
     ensures exact { IsFrontAnswer policy.now bytes.now result }
     ensures held { IfOk result (λ p. IsHeld p.container) }
@@ -168,7 +168,8 @@ pub fn front<'b>(alloc: Global, policy: &Policy, bytes: &'b [u8]) -> Result<Pass
     pass(alloc, &mut kept, policy, bytes)
 }
 
-/// Clauses 10 and 14 of the lemmas alone, of what passed the clauses before the proof.
+/// Acceptance checks 10 and 14 for the lemmas alone, of a container that passed those before the
+/// proof.
 fn good_lemmas<'b>(
     alloc: Global,
     kept: &mut Kept,
@@ -196,13 +197,13 @@ fn good_lemmas<'b>(
     Ok(Passed { container, cut })
 }
 
-/// The container in `bytes`, and its code with its annotated indices, where the clauses before the
-/// proof hold (`front`), and besides, of its lemmas alone, clauses 10 and 14: their proofs aren't
-/// too heavy together, and each proves its formula with the lemmas before it. So a proof that takes
-/// the place of its own is all that may fail.
+/// Checks whether the acceptance checks before the proof pass, as `front` does, and in addition
+/// checks 10 and 14 for the lemmas alone: their proofs aren't too heavy together, and each proves
+/// its formula with the lemmas before it. Returns the container in `bytes` with its code and cut
+/// points. If the proof is then replaced, only the new proof may fail.
 ///
-/// Errors: `Refused` names the first of these that fails, exactly where one does; `Memory` and
-/// `Results` as with `front`.
+/// Errors: `Refused` names the first of these checks that fails, exactly if one does; `Memory` and
+/// `Results` as in `front`.
 pub fn front_with_lemmas<'b>(
     alloc: Global,
     policy: &Policy,

@@ -1,4 +1,4 @@
-//! The clauses of the proof and of the proofs of lemmas.
+//! The acceptance checks of the proof and of the lemmas' proofs.
 
 ghost use Rattle.std.specs.Prelude.{◌≡◌, ◌≤◌, [], IfOk, IfSome, OnOk, length, map};
 ghost use Rattle.alpha_cfg.specs.Cuts.{AreFlags, unfolded_of};
@@ -34,8 +34,8 @@ use std::alloc::Global;
 use term_table::{Id, Table};
 use vcgen::VcFault;
 
-/// What the proofs of lemmas weigh together, by the parameters of the signature. Past 4,294,967,295
-/// it answers that.
+/// Returns the total weight of the lemmas' proofs, by the parameters of the signature. Saturates at
+/// 4,294,967,295.
 pub fn lemmas_weight(table: &Table, signature: WordSignature, lemmas: &[(Id, Id)]) -> u32
     requires known { LemmasKnown table.now lemmas.now }
     requires places { table.now.places ≡ places_of signature }
@@ -51,8 +51,8 @@ pub fn lemmas_weight(table: &Table, signature: WordSignature, lemmas: &[(Id, Id)
     }
 }
 
-/// Clauses 9 and 10: the proof, which with the proofs of lemmas isn't too heavy by the parameters
-/// of the signature.
+/// Acceptance checks 9 and 10: returns the proof, whose weight with the lemmas' proofs isn't too
+/// great by the parameters of the signature.
 pub(crate) fn proof_in(
     table: &Table,
     signature: WordSignature,
@@ -77,7 +77,7 @@ pub(crate) fn proof_in(
     }
 }
 
-/// Clause 10 of the proofs of lemmas alone.
+/// Acceptance check 10 for the lemmas' proofs alone.
 pub(crate) fn lemmas_light(
     table: &Table,
     signature: WordSignature,
@@ -94,7 +94,8 @@ pub(crate) fn lemmas_light(
     Ok(())
 }
 
-/// Clause 14: over the signature each lemma's proof proves its formula with the lemmas before it.
+/// Acceptance check 14: over the signature each lemma's proof proves its formula with the lemmas
+/// before it.
 pub(crate) fn lemmas_proved(
     alloc: Global,
     table: &mut Table,
@@ -117,7 +118,7 @@ pub(crate) fn lemmas_proved(
     }
 }
 
-/// The formula that the proof proves over the signature with the lemmas: None where it proves none.
+/// The formula that the proof proves over the signature with the lemmas: None if it proves none.
 fn formula_proved(
     table: &mut Table,
     kept: &mut Kept,
@@ -144,9 +145,9 @@ fn formula_proved(
     proved_with(table, kept, &extended, proof)
 }
 
-/// Clause 11: over the signature with all lemmas the proof proves the verification condition with
-/// that bound. What it proves is found first and the condition compared with that, so no condition
-/// is written out that a proof is too small for.
+/// Acceptance check 11: over the signature with all lemmas the proof proves the verification
+/// condition with that bound. The formula that it proves is found first and compared with the
+/// condition, so no condition is built that a proof is too small for.
 pub(crate) fn proved(
     table: &mut Table,
     kept: &mut Kept,

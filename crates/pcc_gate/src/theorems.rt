@@ -1,4 +1,4 @@
-//! What holds of acceptance, with nothing to run.
+//! Theorems about acceptance; their functions run nothing.
 
 ghost use Rattle.pcc_gate.specs.Safe.{AcceptedSafe, AcceptedReturns};
 ghost use Rattle.pcc_gate.specs.Laws.{AcceptedFirst, PassedFirst, PassedOne};
@@ -8,13 +8,14 @@ ghost use Rattle.pcc_gate.specs.Witness.{LoopIsAccepted, LemmaIsAccepted};
 
 use lf_truth::truth_laws;
 
-/// Bytes are accepted exactly where no clause is the first that fails, and exactly where they are
-/// so with every lemma written out; the clauses before the proof hold exactly where none of them
-/// is; a refusal is the first exactly where the clauses before it hold and its own fails, with its
-/// value (`specs/Refusals`), also among the clauses before the proof alone, and among these and
-/// those of the lemmas alone; what bytes hold is one; the code of accepted bytes is safe for the
-/// policy, and where its steps are bounded, it returns within the bound; and some bytes are
-/// accepted whose code loads, stores and loops, without lemmas, and with one that the proof cites.
+/// States what acceptance and refusals mean. Bytes are accepted exactly if no check is the first
+/// that fails, and exactly if they are accepted with every lemma inlined. The checks before the
+/// proof pass exactly if none of them is the first that fails. A refusal is the first exactly if
+/// the checks before it pass and its own fails, with its value (`specs/Refusals`). That holds also
+/// among the checks before the proof alone, and among these and those of the lemmas alone. Bytes
+/// hold at most one container. The code of accepted bytes is safe for the policy, and if its steps
+/// are bounded, it returns within the bound. Some bytes are accepted whose code loads, stores and
+/// loops, without lemmas, and with one that the proof cites.
 pub fn laws()
     ensures accepted { AcceptedFirst }
     ensures passed { PassedFirst }

@@ -1,4 +1,4 @@
-//! Entries: terms whose parts stand before them.
+//! Entries: term nodes whose children are earlier entries.
 
 ghost use Rattle.std.specs.Prelude.{◌≡◌, ◌+◌, ◌*◌, ◌≤◌, false, [], length, IfOk, OnOk};
 ghost use Rattle.term_table.specs.Table.{IsKnown, PartsKnown, tree_at, node_tree, with_tree};
@@ -15,7 +15,7 @@ use crate::limits::MAX_ENTRIES;
 use std::alloc::AllocError;
 use term_table::{Id, Node, Table};
 
-/// The earlier entry that the next field names.
+/// Reads the next field as the number of an earlier entry and returns that entry.
 pub fn part(fields: &mut Fields<'_>, table: &Table) -> Result<Id, Malformed>
     ensures read { Decodes (tree_at table.now)
         (part_at fields.old.bytes.now fields.old.read table.now.trees) result }
@@ -31,7 +31,8 @@ pub fn part(fields: &mut Fields<'_>, table: &Table) -> Result<Id, Malformed>
     }
 }
 
-/// The same of what is applied, which is no abstraction.
+/// The earlier entry that the next field names as the function of an application, which is no
+/// abstraction.
 fn head(fields: &mut Fields<'_>, table: &Table) -> Result<Id, Malformed>
     ensures read { Decodes (tree_at table.now)
         (head_at fields.old.bytes.now fields.old.read table.now.trees) result }
@@ -46,7 +47,7 @@ fn head(fields: &mut Fields<'_>, table: &Table) -> Result<Id, Malformed>
     }
 }
 
-/// What the next two fields name, the one applied to the other.
+/// The application of the two entries that the next two fields name, the first to the second.
 fn application(fields: &mut Fields<'_>, table: &Table) -> Result<Node, Malformed>
     ensures read { Decodes (node_tree table.now)
         (application_at fields.old.bytes.now fields.old.read table.now.trees) result }
@@ -93,7 +94,7 @@ fn entry(fields: &mut Fields<'_>, table: &Table, version: u32) -> Result<Node, M
     }
 }
 
-/// How many fields the entry of a node has.
+/// Returns how many fields the entry of a node has.
 pub fn size(table: &Table, node: &Node) -> usize
     ensures value { result ≡ entry_size (node_tree table.now node.now) }
     ensures small { result ≤ 6 }
@@ -143,7 +144,7 @@ fn entries_from(
     Ok(())
 }
 
-/// The entries of a container of the version, whose count is the next field, come to the table.
+/// Reads the entries of a container of the version, whose count is the next field, into the table.
 #[tactic(auto, unfolding(crate::specs::Decoding::decoded_entries))]
 pub fn entries(fields: &mut Fields<'_>, version: u32, table: &mut Table) -> Result<(), Malformed>
     requires empty { table.old.trees ≡ [] }

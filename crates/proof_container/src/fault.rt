@@ -1,4 +1,4 @@
-//! What is wrong with bytes that are no container.
+//! Errors of bytes that are no container.
 
 ghost use Rattle.std.specs.Prelude.{◌≡◌, ◌≤◌, length};
 ghost use Rattle.proof_container.specs.Names.{flaw_name};
@@ -9,38 +9,38 @@ use thiserror::Error;
 /// What is wrong with the bytes at an offset.
 #[derive(Clone, Copy, Debug, PartialEq, Eq, Error)]
 pub enum Flaw {
-    /// The field doesn't wholly stand in the bytes.
+    /// The bytes end within the field.
     #[error("a field is cut short")]
     Cut,
     /// The first four bytes aren't `PCCA`.
-    #[error("the magic is wrong")]
+    #[error("the first four bytes aren't PCCA")]
     Magic,
-    /// The version is none of 1 to 4.
-    #[error("the version is unknown")]
+    /// The version isn't 1 to 4.
+    #[error("the version isn't 1 to 4")]
     Version,
-    /// A count or the bound of steps is past its limits, or there is no code.
-    #[error("a count is past its limits")]
+    /// A count or the step bound is past its limits, or there is no code.
+    #[error("a count or the step bound is past its limits, or there is no code")]
     Count,
     /// The kind of the entry is above 7, or above 8 in version 4.
     #[error("the entry is of no kind")]
     EntryKind,
-    /// The entry that is named doesn't come before the one that names it, or isn't there.
-    #[error("the entry that is named doesn't stand before")]
+    /// The entry that is named isn't an earlier one, or isn't there.
+    #[error("the field doesn't name an earlier entry")]
     ForwardRef,
-    /// An earlier entry is the same.
-    #[error("the entry comes twice")]
+    /// The entry equals an earlier one.
+    #[error("the entry equals an earlier one")]
     DoubleEntry,
-    /// The entry isn't the one that the walk leaves at its place.
-    #[error("the entry stands at another place than in the walk")]
+    /// The entry isn't the one that the walk emits at its place.
+    #[error("the entries aren't in the order of the walk from invariants, lemmas and proof")]
     Order,
-    /// What is applied is an abstraction.
-    #[error("an abstraction is applied")]
+    /// An abstraction is applied to an argument.
+    #[error("an abstraction is applied to an argument")]
     LambdaHead,
-    /// An invariant's index doesn't rise, or lies past the code.
-    #[error("the invariant's index doesn't rise or lies past the code")]
+    /// An invariant's index isn't above the one before, or is past the code.
+    #[error("the invariant's index isn't above the one before, or is past the code")]
     InvOrder,
-    /// Bytes are left behind the container.
-    #[error("bytes are left")]
+    /// Bytes follow the end of the container.
+    #[error("bytes follow the end of the container")]
     Trailing,
 }
 
@@ -48,7 +48,7 @@ pub enum Flaw {
 pub const MAX_KIND: usize = 11;
 
 impl Flaw {
-    /// The kind's name, of at most `MAX_KIND` bytes, as a refusal line shows it.
+    /// Returns the error's name, of at most `MAX_KIND` bytes, as a `refused` line prints it.
     pub fn name(self) -> &'static str
         ensures exact { result.now ≡ flaw_name self }
         ensures short { length result.now ≤ MAX_KIND }
@@ -72,10 +72,10 @@ impl Flaw {
 /// Why bytes are no container.
 #[derive(Clone, Copy, Debug, PartialEq, Eq, Error)]
 pub enum Malformed {
-    /// The offset of the first fault, and what is wrong there.
+    /// The byte offset of the first error, and what is wrong there.
     #[error("at offset {0}, {1}")]
     At(u64, Flaw),
-    /// There was no memory for the container.
+    /// The call ran out of memory.
     #[error("out of memory")]
     Memory,
 }

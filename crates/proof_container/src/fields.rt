@@ -1,14 +1,14 @@
-//! Fields: little-endian numbers of four bytes, read from the front.
+//! Fields: little-endian numbers of four bytes, read from front to back.
 
 ghost use Rattle.std.specs.Prelude.{◌≡◌, ◌+◌, ◌*◌, ◌≤◌, IfOk, OnOk, length};
 
 use crate::fault::{Flaw, Malformed};
 use byteorder::{ByteOrder, LittleEndian};
 
-/// The bytes `PCCA`.
+/// The magic number: the bytes `PCCA`.
 pub const MAGIC: u32 = 0x4143_4350;
 
-/// The fields of some bytes, with how many of them were read.
+/// A cursor over the fields of some bytes.
 #[derive(Drop)]
 pub struct Fields<'b> {
     bytes: &'b [u8],
@@ -22,7 +22,7 @@ impl<'b> Fields<'b> {
     ghost use Rattle.proof_container.specs.Views.{Decodes};
     ghost use Rattle.proof_container.specs.Inside.Cursor.{IsPast};
 
-    /// The fields of `bytes`, none of which was read.
+    /// Returns a cursor at the first field of `bytes`.
     pub fn new(bytes: &'b [u8]) -> Fields<'b>
         ensures bytes { result.bytes.now ≡ bytes.now }
         ensures first { result.read ≡ 0 }
@@ -30,28 +30,28 @@ impl<'b> Fields<'b> {
         Fields { bytes, read: 0 }
     }
 
-    /// How many fields were read.
+    /// Returns how many fields were read.
     pub fn place(&self) -> usize
         ensures { result ≡ self.now.read }
     {
         self.read
     }
 
-    /// The byte offset of the next field.
+    /// Returns the byte offset of the next field.
     pub fn offset(&self) -> u64
         ensures { result ≡ 4 * self.now.read }
     {
         4 * self.read as u64
     }
 
-    /// How many bytes weren't read.
+    /// Returns how many bytes are left to read.
     pub fn remaining(&self) -> usize
         ensures { 4 * self.now.read + result ≡ length self.now.bytes.now }
     {
         self.bytes.len() - 4 * self.read
     }
 
-    /// The next field.
+    /// Reads the next field.
     pub fn field(&mut self) -> Result<u32, Malformed>
         ensures read { Decodes (λ n. n) (field_at self.old.bytes.now self.old.read) result }
         ensures moves { OnOk result (IsPast self.old self.new 1) }
@@ -64,7 +64,7 @@ impl<'b> Fields<'b> {
         Ok(LittleEndian::read_u32(rest))
     }
 
-    /// The next field, which has to be this number.
+    /// Reads the next field, which has to equal `n`; else `flaw` is the error.
     pub fn exact(&mut self, n: u32, flaw: Flaw) -> Result<u32, Malformed>
         ensures read { Decodes (λ n. n) (exact_at self.old.bytes.now self.old.read n flaw) result }
         ensures moves { OnOk result (IsPast self.old self.new 1) }
@@ -78,7 +78,7 @@ impl<'b> Fields<'b> {
         }
     }
 
-    /// The next field, which has to lie between these numbers.
+    /// Reads the next field, which has to be from `low` to `high`; else `flaw` is the error.
     pub fn between(&mut self, low: u32, high: u32, flaw: Flaw) -> Result<u32, Malformed>
         ensures read { Decodes (λ n. n)
             (between_at self.old.bytes.now self.old.read low high flaw) result }
@@ -95,7 +95,7 @@ impl<'b> Fields<'b> {
         }
     }
 
-    /// The next `count` fields as they stand.
+    /// Reads the next `count` fields and returns their bytes.
     #[tactic(auto, unfolding(crate::specs::Decoding::raw_at))]
     pub fn raw(&mut self, count: usize) -> Result<&'b [u8], Malformed>
         ensures read { Decodes (λ raw. raw.now) (raw_at self.old.bytes.now self.old.read count)
@@ -112,7 +112,7 @@ impl<'b> Fields<'b> {
         Ok(&self.bytes[first..4 * self.read])
     }
 
-    /// The word in the next two fields, the low half first.
+    /// Reads a 64-bit word from the next two fields, the low half first.
     pub fn word(&mut self) -> Result<u64, Malformed>
         ensures read { Decodes (λ w. w) (word_at self.old.bytes.now self.old.read) result }
         ensures moves { OnOk result (IsPast self.old self.new 2) }
@@ -122,7 +122,7 @@ impl<'b> Fields<'b> {
         Ok(u64::from(low) + 4_294_967_296 * u64::from(high))
     }
 
-    /// The number in the next field, and the two words behind it.
+    /// Reads a number from the next field and two words from the four fields after it.
     pub fn triple(&mut self) -> Result<(u32, u64, u64), Malformed>
         ensures read { Decodes (λ t. (t.0, t.1, t.2))
             (triple_at self.old.bytes.now self.old.read) result }

@@ -1,11 +1,11 @@
-//! Containers: code with its invariants, lemmas and its proof, as bytes.
+//! The container format: code, invariants, lemmas and proof as bytes, read and written.
 //!
-//! The layers above use that `read` gives the contents that the bytes encode, or else the first
-//! fault with its offset; that `write` gives the one encoding of its view's contents; how long that
-//! is; and which ids a walk leaves, in order (`walk_from`). The contents stand in `specs/Contents`, the order of the entries in `specs/Postorder`, the
-//! grammar (as a relation between bytes and contents) in `specs/Encoding`, the tests in their order
-//! in `specs/Decoding`, and what the versions differ in, in `specs/Versions`. The format is this
-//! project's own.
+//! The layers above use that `read` returns the contents that the bytes encode, or else the first
+//! error with its byte offset; that `write` returns the one encoding of its view's contents; how
+//! long that encoding is; and which ids a walk emits, in order (`walk_from`). `specs/Contents`
+//! defines the contents, `specs/Postorder` the order of the entries, `specs/Encoding` the grammar
+//! (as a relation between bytes and contents), `specs/Decoding` the tests in their order, and
+//! `specs/Versions` the differences between the versions. The format is this project's own.
 #![tactic(auto)]
 
 mod container;

@@ -1,12 +1,12 @@
-//! The limits of a container.
+//! The limits of a container's fields and size.
 
 /// The greatest version.
 pub const MAX_VERSION: u32 = 4;
 
-/// The greatest bound of steps.
+/// The greatest step bound.
 pub const MAX_BOUND: u32 = 1_000_000_000;
 
-/// The most words that code may have.
+/// The most instruction words that code may have.
 pub const MAX_WORDS: u32 = 1_024;
 
 /// The most entries that a container may have.

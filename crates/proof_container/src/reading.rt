@@ -1,4 +1,4 @@
-//! Reading a container, front to back.
+//! Reads a container, from front to back.
 
 ghost use Rattle.std.specs.Prelude.{◌≡◌, [], ◌+◌, ◌*◌, ◌^◌, ◌<◌, ◌≤◌, length, map, ◌↔◌};
 ghost use Rattle.std.specs.Prelude.{IfOk, IfErr, IfSome, IsTrue, OnOk};
@@ -32,7 +32,7 @@ use crate::walk::walk_from;
 use std::alloc::Global;
 use term_table::{Id, Table};
 
-/// What stands before the entries.
+/// The fields before the entries.
 #[derive(Clone, Copy)]
 struct Start<'b> {
     version: u32,
@@ -41,7 +41,7 @@ struct Start<'b> {
     code: &'b [u8],
 }
 
-/// What names the policy in this version: the next field, or the next eight as they stand.
+/// The field that names the policy in this version: the next field, or the bytes of the next eight.
 #[tactic(auto, unfolding(crate::specs::Decoding::policy_at))]
 fn policy(fields: &mut Fields<'_>, version: u32) -> Result<Head, Malformed>
     requires place { fields.old.read ≡ 2 }
@@ -70,8 +70,8 @@ fn bound(fields: &mut Fields<'_>, version: u32) -> Result<Option<u32>, Malformed
     Ok(Some(steps))
 }
 
-/// The version, what names the policy, the bound of steps and the code; the next field is the one
-/// behind it.
+/// The version, the field that names the policy, the step bound and the code; the next field is the
+/// one after it.
 #[tactic(auto, unfolding(crate::specs::Decoding::decoded_head))]
 fn start_of<'b>(fields: &mut Fields<'b>) -> Result<Start<'b>, Malformed>
     requires { fields.old.read ≡ 0 }
@@ -248,7 +248,7 @@ fn misplaced(table: &Table, left: &[Id]) -> Option<u64>
     None
 }
 
-/// The byte offset of entry e, where the count of entries is the field `at`.
+/// The byte offset of entry `e`, if the count of entries is the field `at`.
 fn offset_of(table: &Table, at: usize, e: u64) -> u64
     requires known { e ≤ length table.now.trees }
     requires few { length table.now.trees ≤ MAX_ENTRIES }
@@ -262,8 +262,8 @@ fn offset_of(table: &Table, at: usize, e: u64) -> u64
     4 * field as u64
 }
 
-/// Whether no byte is left, and the entries, whose count is the field `at`, stand in the order of
-/// the walk; else the fault.
+/// Whether no byte is left, and the entries, whose count is the field `at`, are in the order of the
+/// walk; else the error.
 #[tactic(auto, unfolding(crate::specs::Decoding::decoded_end))]
 fn end(
     alloc: Global,
@@ -327,12 +327,12 @@ fn parse(alloc: Global, bytes: &[u8]) -> Result<Container<'_>, Malformed>
     Ok(container)
 }
 
-/// Decodes container `bytes`; its terms are the entries, in the order in which they stand, and its
+/// Decodes a container from `bytes`. Its terms are the entries, in the order of the bytes, and its
 /// code is a slice of `bytes`.
 ///
-/// Errors: the first fault with its byte offset, fields being read from the front and each tested
-/// as soon as it is read; `Memory` says nothing of `bytes`. The format is this project's own
-/// (`specs/Encoding`).
+/// Errors: the first error in the bytes with its byte offset: fields are read from the front and
+/// each is tested as soon as it is read. `Memory` says nothing about `bytes`. The format is this
+/// project's own (`specs/Encoding`).
 pub fn read(alloc: Global, bytes: &[u8]) -> Result<Container<'_>, Malformed>
     ensures decodes { IfOk result (λ c. EncodesContents bytes.now (contents_of c)) }
     ensures none { IfErr result (λ e. IsNone bytes.now e) }

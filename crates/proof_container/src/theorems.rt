@@ -1,4 +1,4 @@
-//! What holds of the definitions, with nothing to run.
+//! Theorems about the definitions; their functions run nothing.
 
 ghost use Rattle.std.specs.Prelude.{◌≡◌, ℕ, List, ◌<◌, ◌↔◌, length, take, Ok};
 ghost use Rattle.term_table.specs.Tree.{Tree};
@@ -11,9 +11,9 @@ ghost use Rattle.proof_container.specs.Decoding.{decoded_container};
 ghost use Rattle.proof_container.specs.Views.{IsCanonical, AreSame, contents_of};
 ghost use Rattle.proof_container.specs.declared.container.Container.{Container};
 
-/// Contents have one encoding and bytes one content, which is what the bytes read as. A walk lists
-/// each root, no tree twice, and each tree behind its parts. Containers whose terms are their
-/// entries are the same where their contents are.
+/// States that contents have exactly one encoding, and that bytes encode at most one content, which
+/// is what they are read as. A walk lists each root, no tree twice, and each tree after its
+/// children. Containers whose terms are their entries are equal if their contents are.
 pub fn laws()
     ensures decided { (bytes : List ℕ) (c : Contents) →
         IsBytes bytes → (EncodesContents bytes c ↔ (decoded_container bytes ≡ Ok c)) }

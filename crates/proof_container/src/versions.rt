@@ -1,4 +1,4 @@
-//! The profile and the signature of each version.
+//! The instruction profile and the signature of each container version.
 
 ghost use Rattle.std.specs.Prelude.{◌≡◌};
 ghost use Rattle.proof_container.specs.Versions.{profile_of, signature_of};
@@ -6,7 +6,7 @@ ghost use Rattle.proof_container.specs.Versions.{profile_of, signature_of};
 use lf_signature::WordSignature;
 use word_ops::Profile;
 
-/// The profile that the code of a container of the version is of.
+/// Returns the instruction profile of the code in a container of the version.
 pub fn profile_of(version: u32) -> Profile
     ensures exact { result ≡ profile_of version }
 {
@@ -17,8 +17,8 @@ pub fn profile_of(version: u32) -> Profile
     }
 }
 
-/// The signature that the terms of a container of the version are over, by whose parameters its
-/// proof weighs.
+/// Returns the signature that the terms of a container of the version are over. Its parameter
+/// counts also give the size of the proof.
 pub fn signature_of(version: u32) -> WordSignature
     ensures exact { result ≡ signature_of version }
 {

@@ -14,7 +14,7 @@ ghost use Rattle.proof_container.specs.Inside.Walked.{steps_cost};
 use std::alloc::{AllocError, Global};
 use term_table::{Id, Node, Table};
 
-/// The ids that a walk has left, in order, and for each id of the table its place there.
+/// The ids that a walk has emitted, in order, and for each id of the table its place among them.
 #[derive(Drop)]
 pub struct Walk {
     pub left: Vec<Id>,
@@ -22,7 +22,7 @@ pub struct Walk {
 }
 
 impl Walk {
-    /// The place of an id among those that were left, if it was left.
+    /// Returns the place of an id among the emitted ids, if it was emitted.
     pub fn number(&self, id: Id) -> Option<u64>
         requires { id < length self.now.numbers.items }
         ensures { result ≡ get_or self.now.numbers.items id None }
@@ -31,7 +31,7 @@ impl Walk {
     }
 }
 
-/// What a walk has yet to do.
+/// A step that a walk has yet to do.
 #[derive(Clone, Copy)]
 enum Step {
     /// To leave what the tree is made of, and it, unless it has been left.
@@ -125,7 +125,7 @@ fn leave(table: &Table, walk: &mut Walk, id: Id) -> Result<(), AllocError>
     Ok(())
 }
 
-/// Takes a step, which no longer stands among the others.
+/// Takes a step, which is no longer among the others.
 fn take_step(
     table: &Table,
     walk: &mut Walk,
@@ -146,8 +146,10 @@ fn take_step(
     }
 }
 
-/// The walk from the invariants in order, then each lemma's formula and proof, and then the proof,
-/// which leaves each tree once, behind its parts. Fails only for want of memory.
+/// Walks from the invariants in order, then each lemma's formula and proof, and then the proof.
+/// Emits each tree once, after its children.
+///
+/// Errors: out of memory alone.
 pub fn walk_from(
     alloc: Global,
     table: &Table,

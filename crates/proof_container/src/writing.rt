@@ -1,4 +1,4 @@
-//! Writing a container, and how long it will be.
+//! Writes a container, and computes its size.
 
 ghost use Rattle.std.specs.Prelude.{◌≡◌, ℕ, ◌-◌, ◌+◌, ◌*◌, ◌<◌, ◌≤◌, ◌^◌, ◌++◌, ◌%◌, ◌/◌, min};
 ghost use Rattle.std.specs.Prelude.{sum_by, slice_index, length, map, true, None, Ok, [], ◌∷◌};
@@ -161,7 +161,7 @@ fn put_pairs(
     Ok(())
 }
 
-/// Adds the lemmas behind their count, where the version has some.
+/// Appends the lemmas after their count, if the version has some.
 fn put_lemmas(
     out: &mut Vec<u8>,
     table: &Table,
@@ -202,7 +202,7 @@ fn proof_number(table: &Table, walk: &Walk, proof: Option<Id>) -> u32
     }
 }
 
-/// Adds what stands behind the code.
+/// Appends the fields after the code.
 fn put_tail(out: &mut Vec<u8>, view: &View<'_>, walk: &Walk) -> Result<(), AllocError>
     requires { IsReady view.now walk.now }
     ensures { let es = left_trees view.now.table.now walk.now in
@@ -245,7 +245,7 @@ fn put_counts(out: &mut Vec<u8>, bound: Option<u32>, words: u32) -> Result<(), A
     }
 }
 
-/// Adds what stands before the code, which has so many words.
+/// Appends the fields before the code, which has `words` words.
 fn put_head(out: &mut Vec<u8>, view: &View<'_>, words: u32) -> Result<(), AllocError>
     ensures { let held = view_contents view.now in
         OnOk result (out.new.items ≡ out.old.items ++ head_bytes held words) }
@@ -255,12 +255,12 @@ fn put_head(out: &mut Vec<u8>, view: &View<'_>, words: u32) -> Result<(), AllocE
     put_counts(out, view.bound, words)
 }
 
-/// Encodes the contents of `view`: the entries stand in the order of the walk from the invariants,
-/// then each lemma's formula and proof, and then the proof, whatever other terms the table has. But
-/// in version 4 there are no lemmas, and the roots are terms that cite none, since there is no kind
-/// of entry for one.
+/// Encodes the contents of `view`. The entries are in the order of the walk from the invariants,
+/// then each lemma's formula and proof, and then the proof; other terms of the table aren't
+/// written. Except in version 4, `view` must have no lemmas and its roots must be terms that cite
+/// none, since there is no kind of entry for a citation.
 ///
-/// Errors: want of memory alone.
+/// Errors: out of memory alone.
 pub fn write(alloc: Global, view: &View<'_>) -> Result<Vec<u8>, AllocError>
     requires { IsWritable view.now }
     ensures encodes { IfOk result (λ v. EncodesContents v.items (view_contents view.now)) }
@@ -322,10 +322,10 @@ fn lemmas_len(version: u32, lemmas: &[(Id, Id)]) -> u64
     (lemmas.len() as u64).saturating_mul(2).saturating_add(1)
 }
 
-/// Measures the container of `view`: how many entries it has, and how many bytes; past
-/// 18,446,744,073,709,551,615 bytes it answers that.
+/// Returns the size of the container of `view`: how many entries it has, and how many bytes. The
+/// number of bytes saturates at 18,446,744,073,709,551,615.
 ///
-/// Errors: want of memory alone.
+/// Errors: out of memory alone.
 pub fn extent(alloc: Global, view: &View<'_>) -> Result<(u64, u64), AllocError>
     requires known { AreKnown view.now.table.now view.now.invs.now view.now.proof }
     requires lemmas { LemmasKnown view.now.table.now view.now.lemmas.now }

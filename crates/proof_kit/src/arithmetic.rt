@@ -1,7 +1,7 @@
 //! The rules of sums, differences, bits and multiples of 8.
 //!
-//! Each function answers the sequent of its rule's conclusion exactly where the parameters and the
-//! premises have the rule's form, else None. Errors: want of memory alone; each id keeps its tree.
+//! Each function returns the sequent of its rule's conclusion exactly if the parameters and the
+//! premises have the rule's form, else None. Errors: out of memory alone; each id keeps its tree.
 
 ghost use Rattle.std.specs.Prelude.{◌≡◌, [], ◌∷◌, IfOk};
 ghost use Rattle.term_table.specs.Table.{AllKnown, Extends};
@@ -20,7 +20,7 @@ use lf_signature::Known;
 use std::alloc::{AllocError, Global};
 use term_table::{Id, Table};
 
-/// Sums commute.
+/// Proves that sums commute.
 ///
 /// `add_comm a b ; |- (eq (add a b) (add b a))`
 pub fn add_comm<S: Known>(
@@ -45,7 +45,7 @@ pub fn add_comm<S: Known>(
     by_rule(alloc, table, sig, kept, hyps, ADD_COMM, &[a, b], &[])
 }
 
-/// Sums associate.
+/// Proves that sums associate.
 ///
 /// `add_assoc a b c ; |- (eq (add (add a b) c) (add a (add b c)))`
 pub fn add_assoc<S: Known>(
@@ -71,7 +71,7 @@ pub fn add_assoc<S: Known>(
     by_rule(alloc, table, sig, kept, hyps, ADD_ASSOC, &[a, b, c], &[])
 }
 
-/// 0 adds nothing.
+/// Proves that adding 0 changes nothing.
 ///
 /// `add_zero a ; |- (eq (add a 0) a)`
 pub fn add_zero<S: Known>(
@@ -95,7 +95,7 @@ pub fn add_zero<S: Known>(
     by_rule(alloc, table, sig, kept, hyps, ADD_ZERO, &[a], &[])
 }
 
-/// What was taken away comes back.
+/// Proves that subtracting a word and adding it again changes nothing.
 ///
 /// `sub_add a b ; |- (eq (add (sub a b) b) a)`
 pub fn sub_add<S: Known>(
@@ -120,7 +120,7 @@ pub fn sub_add<S: Known>(
     by_rule(alloc, table, sig, kept, hyps, SUB_ADD, &[a, b], &[])
 }
 
-/// A difference is a sum with the negated word.
+/// Proves that a difference is a sum with the negated word.
 ///
 /// `sub_neg a b ; |- (eq (sub a b) (add a (sub 0 b)))`
 pub fn sub_neg<S: Known>(
@@ -145,7 +145,7 @@ pub fn sub_neg<S: Known>(
     by_rule(alloc, table, sig, kept, hyps, SUB_NEG, &[a, b], &[])
 }
 
-/// Bitwise and commutes.
+/// Proves that bitwise and commutes.
 ///
 /// `and_comm a b ; |- (eq (band a b) (band b a))`
 pub fn and_comm<S: Known>(
@@ -170,7 +170,7 @@ pub fn and_comm<S: Known>(
     by_rule(alloc, table, sig, kept, hyps, AND_COMM, &[a, b], &[])
 }
 
-/// Bitwise and associates.
+/// Proves that bitwise and associates.
 ///
 /// `and_assoc a b c ; |- (eq (band (band a b) c) (band a (band b c)))`
 pub fn and_assoc<S: Known>(
@@ -196,7 +196,7 @@ pub fn and_assoc<S: Known>(
     by_rule(alloc, table, sig, kept, hyps, AND_ASSOC, &[a, b, c], &[])
 }
 
-/// Bitwise and with 0 is 0.
+/// Proves that bitwise and with 0 is 0.
 ///
 /// `and_zero a ; |- (eq (band a 0) 0)`
 pub fn and_zero<S: Known>(
@@ -220,7 +220,7 @@ pub fn and_zero<S: Known>(
     by_rule(alloc, table, sig, kept, hyps, AND_ZERO, &[a], &[])
 }
 
-/// Bitwise and is at most its right side.
+/// Proves that bitwise and is at most its right operand.
 ///
 /// `and_le a b ; |- (ule (band a b) b)`
 pub fn and_le<S: Known>(
@@ -245,7 +245,7 @@ pub fn and_le<S: Known>(
     by_rule(alloc, table, sig, kept, hyps, AND_LE, &[a, b], &[])
 }
 
-/// Bitwise or with 0 on the right.
+/// Proves that bitwise or with 0 on the right changes nothing.
 ///
 /// `bis_zero a ; |- (eq (bis a 0) a)`
 pub fn bis_zero<S: Known>(
@@ -269,7 +269,7 @@ pub fn bis_zero<S: Known>(
     by_rule(alloc, table, sig, kept, hyps, BIS_ZERO, &[a], &[])
 }
 
-/// Bitwise or with 0 on the left.
+/// Proves that bitwise or with 0 on the left changes nothing.
 ///
 /// `bis_zero_l a ; |- (eq (bis 0 a) a)`
 pub fn bis_zero_l<S: Known>(
@@ -293,7 +293,7 @@ pub fn bis_zero_l<S: Known>(
     by_rule(alloc, table, sig, kept, hyps, BIS_ZERO_L, &[a], &[])
 }
 
-/// The sum of two multiples of 8 is one.
+/// Proves that the sum of two multiples of 8 is a multiple of 8.
 ///
 /// `add_al a b ; (eq (band a 7) 0), (eq (band b 7) 0) |- (eq (band (add a b) 7) 0)`
 pub fn add_al<S: Known>(
@@ -322,7 +322,7 @@ pub fn add_al<S: Known>(
     by_rule(alloc, table, sig, kept, hyps, ADD_AL, &[a, b], &[p, q])
 }
 
-/// A word shifted left by 3 is a multiple of 8.
+/// Proves that a word shifted left by 3 is a multiple of 8.
 ///
 /// `sll_al a ; |- (eq (band (sll a 3) 7) 0)`
 pub fn sll_al<S: Known>(

@@ -1,7 +1,7 @@
-//! The rules of the compares, each for five pairs of operator and relation.
+//! The rules of the compare instructions, each for five pairs of operator and relation.
 //!
-//! Each function answers the sequent of its rule's conclusion exactly where the parameters and the
-//! premises have the rule's form, else None. Errors: want of memory alone; each id keeps its tree.
+//! Each function returns the sequent of its rule's conclusion exactly if the parameters and the
+//! premises have the rule's form, else None. Errors: out of memory alone; each id keeps its tree.
 
 ghost use Rattle.std.specs.Prelude.{◌≡◌, ◌≤◌, [], ◌∷◌, IfOk};
 ghost use Rattle.term_table.specs.Table.{AllKnown, Extends};
@@ -25,12 +25,12 @@ fn of_pair(first: u32, pair: u32) -> Option<u32>
     if pair < 5 { Some(first + pair) } else { None }
 }
 
-/// A compare that is not 0 has its relation hold.
+/// Proves a relation from a compare instruction's result that isn't 0.
 ///
 /// `cmp_yes a b ; (not (eq (o a b) 0)) |- (p a b)`
 ///
-/// `pair` is 0 to 4, for cmpeq and eq, cmplt and slt, cmple and sle, cmpult and ult, cmpule and ule;
-/// a greater one hasn't the rule's form.
+/// `pair` is 0 to 4, for cmpeq and eq, cmplt and slt, cmple and sle, cmpult and ult, cmpule and
+/// ule; a greater `pair` doesn't have the rule's form.
 pub fn cmp_yes<S: Known>(
     alloc: Global,
     table: &mut Table,
@@ -60,12 +60,12 @@ pub fn cmp_yes<S: Known>(
     }
 }
 
-/// A compare that is 0 has its relation denied.
+/// Proves that a relation doesn't hold from a compare instruction's result 0.
 ///
 /// `cmp_no a b ; (eq (o a b) 0) |- (not (p a b))`
 ///
-/// `pair` is 0 to 4, for cmpeq and eq, cmplt and slt, cmple and sle, cmpult and ult, cmpule and ule;
-/// a greater one hasn't the rule's form.
+/// `pair` is 0 to 4, for cmpeq and eq, cmplt and slt, cmple and sle, cmpult and ult, cmpule and
+/// ule; a greater `pair` doesn't have the rule's form.
 pub fn cmp_no<S: Known>(
     alloc: Global,
     table: &mut Table,
@@ -95,12 +95,12 @@ pub fn cmp_no<S: Known>(
     }
 }
 
-/// A compare is at most 1.
+/// Proves that a compare instruction's result is at most 1.
 ///
 /// `cmp_le1 a b ; |- (ule (o a b) 1)`
 ///
-/// `pair` is 0 to 4, for cmpeq and eq, cmplt and slt, cmple and sle, cmpult and ult, cmpule and ule;
-/// a greater one hasn't the rule's form.
+/// `pair` is 0 to 4, for cmpeq and eq, cmplt and slt, cmple and sle, cmpult and ult, cmpule and
+/// ule; a greater `pair` doesn't have the rule's form.
 pub fn cmp_le1<S: Known>(
     alloc: Global,
     table: &mut Table,

@@ -1,7 +1,7 @@
 //! The rules of the connectives.
 //!
-//! Each function answers the sequent of its rule's conclusion exactly where the parameters and the
-//! premises have the rule's form, else None. Errors: want of memory alone; each id keeps its tree.
+//! Each function returns the sequent of its rule's conclusion exactly if the parameters and the
+//! premises have the rule's form, else None. Errors: out of memory alone; each id keeps its tree.
 
 ghost use Rattle.std.specs.Prelude.{◌≡◌, [], ◌∷◌, IfOk};
 ghost use Rattle.term_table.specs.Table.{AllKnown, Extends};
@@ -17,7 +17,7 @@ use lf_signature::Known;
 use std::alloc::{AllocError, Global};
 use term_table::{Id, Table};
 
-/// Truth holds.
+/// Proves truth.
 ///
 /// `tt_i ; |- tt`
 pub fn tt_i<S: Known>(
@@ -39,7 +39,7 @@ pub fn tt_i<S: Known>(
     by_rule(alloc, table, sig, kept, hyps, TT_I, &[], &[])
 }
 
-/// From falsity follows any formula.
+/// Proves any formula from falsity.
 ///
 /// `ff_e A ; ff |- A`
 pub fn ff_e<S: Known>(
@@ -66,7 +66,7 @@ pub fn ff_e<S: Known>(
     by_rule(alloc, table, sig, kept, hyps, FF_E, &[a], &[p])
 }
 
-/// Two proofs give one of both.
+/// Proves a conjunction from proofs of both sides.
 ///
 /// `and_i A B ; A, B |- (and A B)`
 pub fn and_i<S: Known>(
@@ -95,7 +95,7 @@ pub fn and_i<S: Known>(
     by_rule(alloc, table, sig, kept, hyps, AND_I, &[a, b], &[p, q])
 }
 
-/// The left of both.
+/// Proves the left side of a conjunction.
 ///
 /// `and_l A B ; (and A B) |- A`
 pub fn and_l<S: Known>(
@@ -123,7 +123,7 @@ pub fn and_l<S: Known>(
     by_rule(alloc, table, sig, kept, hyps, AND_L, &[a, b], &[p])
 }
 
-/// The right of both.
+/// Proves the right side of a conjunction.
 ///
 /// `and_r A B ; (and A B) |- B`
 pub fn and_r<S: Known>(
@@ -151,7 +151,7 @@ pub fn and_r<S: Known>(
     by_rule(alloc, table, sig, kept, hyps, AND_R, &[a, b], &[p])
 }
 
-/// One of two, from the left.
+/// Proves a disjunction from its left side.
 ///
 /// `or_l A B ; A |- (or A B)`
 pub fn or_l<S: Known>(
@@ -179,7 +179,7 @@ pub fn or_l<S: Known>(
     by_rule(alloc, table, sig, kept, hyps, OR_L, &[a, b], &[p])
 }
 
-/// One of two, from the right.
+/// Proves a disjunction from its right side.
 ///
 /// `or_r A B ; B |- (or A B)`
 pub fn or_r<S: Known>(
@@ -207,7 +207,7 @@ pub fn or_r<S: Known>(
     by_rule(alloc, table, sig, kept, hyps, OR_R, &[a, b], &[p])
 }
 
-/// What follows from either follows from one of two.
+/// Proves by cases: what follows from either side of a disjunction follows from the disjunction.
 ///
 /// `or_e A B C ; (or A B), [A] C, [B] C |- C`
 pub fn or_e<S: Known>(
@@ -238,7 +238,7 @@ pub fn or_e<S: Known>(
     by_rule(alloc, table, sig, kept, hyps, OR_E, &[a, b, c], &[p, q, r])
 }
 
-/// What is proved under a hypothesis follows from it.
+/// Proves an implication from a proof of its conclusion under its hypothesis.
 ///
 /// `imp_i A B ; [A] B |- (imp A B)`
 pub fn imp_i<S: Known>(
@@ -266,7 +266,7 @@ pub fn imp_i<S: Known>(
     by_rule(alloc, table, sig, kept, hyps, IMP_I, &[a, b], &[p])
 }
 
-/// What follows from what is proved is proved.
+/// Proves the conclusion of an implication whose hypothesis is proved (modus ponens).
 ///
 /// `imp_e A B ; (imp A B), A |- B`
 pub fn imp_e<S: Known>(
@@ -295,7 +295,7 @@ pub fn imp_e<S: Known>(
     by_rule(alloc, table, sig, kept, hyps, IMP_E, &[a, b], &[p, q])
 }
 
-/// A formula or its denial.
+/// Proves excluded middle: a formula or its denial.
 ///
 /// `em A ; |- (or A (not A))`
 pub fn em<S: Known>(

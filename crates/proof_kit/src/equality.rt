@@ -1,7 +1,7 @@
 //! The rules of equality, and of memories with a word written.
 //!
-//! Each function answers the sequent of its rule's conclusion exactly where the parameters and the
-//! premises have the rule's form, else None. Errors: want of memory alone; each id keeps its tree.
+//! Each function returns the sequent of its rule's conclusion exactly if the parameters and the
+//! premises have the rule's form, else None. Errors: out of memory alone; each id keeps its tree.
 
 ghost use Rattle.std.specs.Prelude.{◌≡◌, [], ◌∷◌, IfOk};
 ghost use Rattle.term_table.specs.Table.{AllKnown, Extends};
@@ -17,7 +17,7 @@ use lf_signature::Known;
 use std::alloc::{AllocError, Global};
 use term_table::{Id, Table};
 
-/// A word equals itself.
+/// Proves that a word equals itself.
 ///
 /// `eq_refl a ; |- (eq a a)`
 pub fn eq_refl<S: Known>(
@@ -41,7 +41,7 @@ pub fn eq_refl<S: Known>(
     by_rule(alloc, table, sig, kept, hyps, EQ_REFL, &[a], &[])
 }
 
-/// What holds of a word holds of an equal one.
+/// Proves of a word what holds of an equal word.
 ///
 /// `eq_sub F a b ; (eq a b), F a |- F b`
 pub fn eq_sub<S: Known>(
@@ -71,7 +71,7 @@ pub fn eq_sub<S: Known>(
     by_rule(alloc, table, sig, kept, hyps, EQ_SUB, &[f, a, b], &[p, q])
 }
 
-/// A word that was written is read back.
+/// Proves that reading an address after a write to it gives the written word.
 ///
 /// `sel_same m a v ; |- (eq (sel (upd m a v) a) v)`
 pub fn sel_same<S: Known>(
@@ -97,7 +97,7 @@ pub fn sel_same<S: Known>(
     by_rule(alloc, table, sig, kept, hyps, SEL_SAME, &[m, a, v], &[])
 }
 
-/// A write leaves the words at other addresses.
+/// Proves that a write leaves the words at other addresses.
 ///
 /// `sel_other m a b v ; (not (eq a b)) |- (eq (sel (upd m a v) b) (sel m b))`
 pub fn sel_other<S: Known>(

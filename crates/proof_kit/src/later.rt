@@ -1,7 +1,7 @@
-//! The rules that the later signatures alone have.
+//! The rules that only the later signatures have.
 //!
-//! Each function answers the sequent of its rule's conclusion exactly where the signature has the
-//! rule, and the parameters and the premises have its form, else None. Errors: want of memory alone;
+//! Each function returns the sequent of its rule's conclusion exactly if the signature has the
+//! rule, and the parameters and the premises have its form, else None. Errors: out of memory alone;
 //! each id keeps its tree.
 
 ghost use Rattle.std.specs.Prelude.{◌≡◌, [], ◌∷◌, IfOk};
@@ -20,7 +20,7 @@ use lf_signature::Known;
 use std::alloc::{AllocError, Global};
 use term_table::{Id, Table};
 
-/// Exclusive or of a word with itself is 0.
+/// Proves that exclusive or of a word with itself is 0.
 ///
 /// `xor_self a ; |- (eq (xor a a) 0)`
 pub fn xor_self<S: Known>(
@@ -44,7 +44,7 @@ pub fn xor_self<S: Known>(
     by_rule(alloc, table, sig, kept, hyps, XOR_SELF, &[a], &[])
 }
 
-/// A word with some bits cleared is at most the word.
+/// Proves that a word with some bits cleared is at most the word.
 ///
 /// `bic_le a b ; |- (ule (bic a b) a)`
 pub fn bic_le<S: Known>(
@@ -69,7 +69,7 @@ pub fn bic_le<S: Known>(
     by_rule(alloc, table, sig, kept, hyps, BIC_LE, &[a, b], &[])
 }
 
-/// Four times a word plus another is the sum of the word shifted by 2 and the other.
+/// Proves that four times a word plus another is the sum of the word shifted by 2 and the other.
 ///
 /// `s4_def a b ; |- (eq (s4add a b) (add (sll a 2) b))`
 pub fn s4_def<S: Known>(
@@ -94,7 +94,7 @@ pub fn s4_def<S: Known>(
     by_rule(alloc, table, sig, kept, hyps, S4_DEF, &[a, b], &[])
 }
 
-/// Eight times a word plus another is the sum of the word shifted by 3 and the other.
+/// Proves that eight times a word plus another is the sum of the word shifted by 3 and the other.
 ///
 /// `s8_def a b ; |- (eq (s8add a b) (add (sll a 3) b))`
 pub fn s8_def<S: Known>(
@@ -119,7 +119,7 @@ pub fn s8_def<S: Known>(
     by_rule(alloc, table, sig, kept, hyps, S8_DEF, &[a, b], &[])
 }
 
-/// A byte of a word is at most 255.
+/// Proves that a byte of a word is at most 255.
 ///
 /// `extb_le a b ; |- (ule (extb a b) 255)`
 pub fn extb_le<S: Known>(
@@ -144,7 +144,7 @@ pub fn extb_le<S: Known>(
     by_rule(alloc, table, sig, kept, hyps, EXTB_LE, &[a, b], &[])
 }
 
-/// Two bytes of a word are at most 65,535.
+/// Proves that two bytes of a word are at most 65,535.
 ///
 /// `extw_le a b ; |- (ule (extw a b) 65535)`
 pub fn extw_le<S: Known>(
@@ -169,7 +169,7 @@ pub fn extw_le<S: Known>(
     by_rule(alloc, table, sig, kept, hyps, EXTW_LE, &[a, b], &[])
 }
 
-/// Four bytes of a word are at most 4,294,967,295.
+/// Proves that four bytes of a word are at most 4,294,967,295.
 ///
 /// `extl_le a b ; |- (ule (extl a b) 4294967295)`
 pub fn extl_le<S: Known>(
@@ -194,7 +194,7 @@ pub fn extl_le<S: Known>(
     by_rule(alloc, table, sig, kept, hyps, EXTL_LE, &[a, b], &[])
 }
 
-/// A word with another's bits cleared is its bitwise and with the other's complement.
+/// Proves that clearing another word's bits is bitwise and with the other word's complement.
 ///
 /// `bic_def a b ; |- (eq (bic a b) (band a (xor b MAX)))`
 pub fn bic_def<S: Known>(
@@ -219,7 +219,7 @@ pub fn bic_def<S: Known>(
     by_rule(alloc, table, sig, kept, hyps, BIC_DEF, &[a, b], &[])
 }
 
-/// Differences from a word keep the order where the lesser one does not wrap.
+/// Proves that subtracting a word keeps the order if the lesser difference doesn't wrap.
 ///
 /// `sub_lo a b c ; (ule b a), (ule c b) |- (ule (sub b c) (sub a c))`
 pub fn sub_lo<S: Known>(

@@ -1,7 +1,7 @@
 //! The rules of the unsigned order.
 //!
-//! Each function answers the sequent of its rule's conclusion exactly where the parameters and the
-//! premises have the rule's form, else None. Errors: want of memory alone; each id keeps its tree.
+//! Each function returns the sequent of its rule's conclusion exactly if the parameters and the
+//! premises have the rule's form, else None. Errors: out of memory alone; each id keeps its tree.
 
 ghost use Rattle.std.specs.Prelude.{◌≡◌, [], ◌∷◌, IfOk};
 ghost use Rattle.term_table.specs.Table.{AllKnown, Extends};
@@ -20,7 +20,7 @@ use lf_signature::Known;
 use std::alloc::{AllocError, Global};
 use term_table::{Id, Table};
 
-/// Right shifts keep the order.
+/// Proves that right shifts keep the order.
 ///
 /// `srl_mono a b c ; (ule a b) |- (ule (srl a c) (srl b c))`
 pub fn srl_mono<S: Known>(
@@ -49,7 +49,7 @@ pub fn srl_mono<S: Known>(
     by_rule(alloc, table, sig, kept, hyps, SRL_MONO, &[a, b, c], &[p])
 }
 
-/// Left shifts keep the order where no bit is lost.
+/// Proves that left shifts keep the order if no bit is lost.
 ///
 /// `sll_mono a b c ; (ule a b), (ule b (srl MAX c)) |- (ule (sll a c) (sll b c))`
 pub fn sll_mono<S: Known>(
@@ -79,7 +79,7 @@ pub fn sll_mono<S: Known>(
     by_rule(alloc, table, sig, kept, hyps, SLL_MONO, &[a, b, c], &[p, q])
 }
 
-/// 0 is least.
+/// Proves that 0 is the least word.
 ///
 /// `zero_le a ; |- (ule 0 a)`
 pub fn zero_le<S: Known>(
@@ -103,7 +103,7 @@ pub fn zero_le<S: Known>(
     by_rule(alloc, table, sig, kept, hyps, ZERO_LE, &[a], &[])
 }
 
-/// MAX, 2^64 - 1, is greatest.
+/// Proves that MAX, 2^64 - 1, is the greatest word.
 ///
 /// `max_le a ; |- (ule a MAX)`
 pub fn max_le<S: Known>(
@@ -127,7 +127,7 @@ pub fn max_le<S: Known>(
     by_rule(alloc, table, sig, kept, hyps, MAX_LE, &[a], &[])
 }
 
-/// A word is at most itself.
+/// Proves that a word is at most itself.
 ///
 /// `ule_refl a ; |- (ule a a)`
 pub fn ule_refl<S: Known>(
@@ -151,7 +151,7 @@ pub fn ule_refl<S: Known>(
     by_rule(alloc, table, sig, kept, hyps, ULE_REFL, &[a], &[])
 }
 
-/// At most, through a third word.
+/// Proves that "at most" is transitive.
 ///
 /// `ule_trans a b c ; (ule a b), (ule b c) |- (ule a c)`
 pub fn ule_trans<S: Known>(
@@ -190,7 +190,7 @@ pub fn ule_trans<S: Known>(
     )
 }
 
-/// Less is at most.
+/// Proves that a word less than another is at most the other.
 ///
 /// `ult_ule a b ; (ult a b) |- (ule a b)`
 pub fn ult_ule<S: Known>(
@@ -218,7 +218,7 @@ pub fn ult_ule<S: Known>(
     by_rule(alloc, table, sig, kept, hyps, ULT_ULE, &[a, b], &[p])
 }
 
-/// Less, then at most.
+/// Proves "less than" from "less than" and then "at most", through a third word.
 ///
 /// `lt_le a b c ; (ult a b), (ule b c) |- (ult a c)`
 pub fn lt_le<S: Known>(
@@ -248,7 +248,7 @@ pub fn lt_le<S: Known>(
     by_rule(alloc, table, sig, kept, hyps, LT_LE, &[a, b, c], &[p, q])
 }
 
-/// At most, then less.
+/// Proves "less than" from "at most" and then "less than", through a third word.
 ///
 /// `le_lt a b c ; (ule a b), (ult b c) |- (ult a c)`
 pub fn le_lt<S: Known>(
@@ -278,7 +278,7 @@ pub fn le_lt<S: Known>(
     by_rule(alloc, table, sig, kept, hyps, LE_LT, &[a, b, c], &[p, q])
 }
 
-/// Less is at most the word before.
+/// Proves that a word less than another is at most the other minus 1.
 ///
 /// `lt_pred a b ; (ult a b) |- (ule a (sub b 1))`
 pub fn lt_pred<S: Known>(
@@ -306,7 +306,7 @@ pub fn lt_pred<S: Known>(
     by_rule(alloc, table, sig, kept, hyps, LT_PRED, &[a, b], &[p])
 }
 
-/// Words at most each other are equal.
+/// Proves that two words that are at most each other are equal.
 ///
 /// `le_anti a b ; (ule a b), (ule b a) |- (eq a b)`
 pub fn le_anti<S: Known>(
@@ -335,7 +335,7 @@ pub fn le_anti<S: Known>(
     by_rule(alloc, table, sig, kept, hyps, LE_ANTI, &[a, b], &[p, q])
 }
 
-/// What is not less is at least.
+/// Proves that a word that isn't less than another is at least the other.
 ///
 /// `not_lt a b ; (not (ult a b)) |- (ule b a)`
 pub fn not_lt<S: Known>(
@@ -363,7 +363,7 @@ pub fn not_lt<S: Known>(
     by_rule(alloc, table, sig, kept, hyps, NOT_LT, &[a, b], &[p])
 }
 
-/// No word is less than itself.
+/// Proves that no word is less than itself.
 ///
 /// `lt_irr a ; (ult a a) |- ff`
 pub fn lt_irr<S: Known>(
@@ -390,7 +390,7 @@ pub fn lt_irr<S: Known>(
     by_rule(alloc, table, sig, kept, hyps, LT_IRR, &[a], &[p])
 }
 
-/// Sums keep the order where the greater one does not wrap.
+/// Proves that sums keep the order if the greater one doesn't wrap.
 ///
 /// `add_le a b c d ; (ule a c), (ule b d), (ule c (add c d)) |- (ule (add a b) (add c d))`
 pub fn add_le<S: Known>(

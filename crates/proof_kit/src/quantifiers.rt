@@ -1,7 +1,7 @@
 //! The rules of the quantifiers over words and over memories.
 //!
-//! Each function answers the sequent of its rule's conclusion exactly where the parameters and the
-//! premises have the rule's form, else None. Errors: want of memory alone; each id keeps its tree.
+//! Each function returns the sequent of its rule's conclusion exactly if the parameters and the
+//! premises have the rule's form, else None. Errors: out of memory alone; each id keeps its tree.
 
 ghost use Rattle.std.specs.Prelude.{◌≡◌, [], ◌∷◌, IfOk};
 ghost use Rattle.term_table.specs.Table.{AllKnown, Extends};
@@ -17,7 +17,7 @@ use lf_signature::Known;
 use std::alloc::{AllocError, Global};
 use term_table::{Id, Table};
 
-/// What is proved of any word holds of all.
+/// Proves a formula for all words from its proof for an arbitrary word.
 ///
 /// `all_i F ; [x] F x |- (all F)`
 pub fn all_i<S: Known>(
@@ -44,7 +44,7 @@ pub fn all_i<S: Known>(
     by_rule(alloc, table, sig, kept, hyps, ALL_I, &[f], &[p])
 }
 
-/// What holds of all words holds of one.
+/// Proves a formula for one word from the formula for all words.
 ///
 /// `all_e F a ; (all F) |- F a`
 pub fn all_e<S: Known>(
@@ -72,7 +72,7 @@ pub fn all_e<S: Known>(
     by_rule(alloc, table, sig, kept, hyps, ALL_E, &[f, a], &[p])
 }
 
-/// What is proved of any memory holds of all.
+/// Proves a formula for all memories from its proof for an arbitrary memory.
 ///
 /// `allm_i G ; [m] G m |- (allm G)`
 pub fn allm_i<S: Known>(
@@ -99,7 +99,7 @@ pub fn allm_i<S: Known>(
     by_rule(alloc, table, sig, kept, hyps, ALLM_I, &[g], &[p])
 }
 
-/// What holds of all memories holds of one.
+/// Proves a formula for one memory from the formula for all memories.
 ///
 /// `allm_e G m ; (allm G) |- G m`
 pub fn allm_e<S: Known>(

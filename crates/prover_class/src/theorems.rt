@@ -1,4 +1,4 @@
-//! What the class gives: proofs, the same ones where hypotheses are repeated.
+//! Theorems about the definitions: they give proofs, and equal ones if hypotheses are repeated.
 
 ghost use Rattle.std.specs.Prelude.{◌≡◌, ◌<◌, ◌≤◌, ◌^◌, ◌↔◌, ℕ, Bool, true, List, [], Some, None};
 ghost use Rattle.term_table.specs.Tree.{Tree};
@@ -16,12 +16,13 @@ ghost use Rattle.lf_signature.specs.declared.WordSignature.{WordSignature};
 ghost use Rattle.lf_signature.specs.Known.{HasOp};
 ghost use Rattle.formula_tree.specs.Operators.{Uses};
 
-/// The class is sound: what it gives a closed condition is a proof of it, a term of that type by
-/// the typing derivations, over each signature of word arithmetic that has the condition's
-/// operators, and rule 104, `sub_lo`, where steps are counted, where the condition's height is at
-/// most 2^29. So it is one over the third signature; where no steps are counted over the second
-/// too, which has all operators, and over the first where they are the first profile's. The class
-/// gives one exactly where no part is the first that isn't easy, wherever their numbers begin.
+/// States that the prover's definitions are sound and decide what is easy. The term that they give
+/// for a closed condition is a proof of it by the typing derivations, if the condition's height is
+/// at most 2^29. It is one over each signature of word arithmetic that has the condition's
+/// operators and, if steps are counted, rule 104, `sub_lo`. So it is a proof over the third
+/// signature; if no steps are counted, also over the second, which has all operators, and over the
+/// first if the operators are those of profile 1. The definitions give a term exactly if no part is
+/// the first that isn't easy, whatever number the parts begin with.
 pub fn class_laws()
     ensures sound { (s : WordSignature) (counted : Bool) (parts : List Form) (p : Tree)
         → (counted ≡ true → 104 < size_of s) → IsOver 0 (conjoined parts) []
@@ -33,9 +34,10 @@ pub fn class_laws()
         ↔ ((p : Tree) × (condition_proof counted parts ≡ Some p)) }
 {}
 
-/// Repeats change no proof: where an implication adds all its hypotheses, also those whose formula is
-/// one already, and all else is alike, a part of a condition has the same proof, or none. Both are one
-/// search with its way of adding as a parameter; with the class's way it is the class's.
+/// States that repeated hypotheses change no proof. Let an implication add all its hypotheses, also
+/// those whose formula is already one, and leave all else alike; then a part of a condition has an
+/// equal proof, or none as before. Both are one search with the way of adding as a parameter; with
+/// the definition's way it is the definition's search.
 pub fn repeat_laws()
     ensures unchanged { (counted : Bool) (part : Form) →
         part_proof_adding with_new counted part ≡ part_proof counted part }

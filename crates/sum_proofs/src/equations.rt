@@ -1,7 +1,6 @@
-//! Normal forms of expressions, with the proofs that the expressions equal them.
+//! Normal forms of expressions, with proofs that the expressions equal them.
 //!
-//! Errors: want of memory alone, which more results than the memo may keep are too; each id keeps
-//! its tree.
+//! Errors: out of memory, or the limit of the memo is reached; each id keeps its tree.
 
 ghost use Rattle.std.specs.Prelude.{◌≡◌, IfOk, IfSome, OnOk, List};
 ghost use Rattle.term_table.specs.Table.{IsKnown, tree_at, Extends};
@@ -22,16 +21,16 @@ use std::alloc::AllocError;
 use term_table::{Id, Table};
 use word_ops::Rel;
 
-/// An expression and the id of a proof that the given one equals it.
+/// A rewritten expression and the id of a proof that the given expression equals it.
 #[derive(Clone, Copy)]
 pub struct Rewritten {
-    /// The expression.
+    /// The rewritten expression.
     pub now: Id,
-    /// The proof.
+    /// The proof of the equation.
     pub proof: Id,
 }
 
-/// An expression whose normal form is asked for with its proof, and how many binders stand outside.
+/// A cache key: an expression whose normal form is proved, and how many binders are outside it.
 #[derive(Clone, Copy, PartialEq, Eq, PartialOrd, Ord)]
 pub struct Place {
     id: u64,
@@ -52,11 +51,11 @@ impl Question for Place {
     ghost lasts = { λ _ t u place r e _ h. form-lasts t u place r e h };
 }
 
-/// Normal forms that were found with their proofs, by expression and number of binders outside. They count in the
-/// limit of the `Memo` that keeps the shifts.
+/// Cached normal forms with their proofs, by expression and number of binders outside. They count
+/// in the limit of the `Memo` that caches the shifts.
 pub type NormalForms = Kept<Place>;
 
-/// What is rewritten after one step; `above` is the expression at first, under one more binder.
+/// The result after one step; `above` is the expression at first, under one more binder.
 fn after_step(
     table: &mut Table,
     above: Id,
@@ -81,7 +80,7 @@ fn after_step(
     })
 }
 
-/// What is rewritten after the steps.
+/// The result after the steps.
 fn after_steps(
     table: &mut Table,
     above: Id,
@@ -109,7 +108,7 @@ fn after_steps(
     }
 }
 
-/// What is rewritten after one more round, unless there is nothing to rewrite.
+/// The result after one more round, unless there is nothing to rewrite.
 #[tactic(auto, using(hereditary_subst::proofs::Rows::rows))]
 fn next(
     table: &mut Table,
@@ -170,7 +169,7 @@ fn normalized(
     Ok(Rewritten { now, proof })
 }
 
-/// The normal form, where none is kept.
+/// The normal form, if none is cached.
 #[tactic(auto, using(hereditary_subst::proofs::Rows::rows))]
 fn fresh_normal_form(
     table: &mut Table,
@@ -201,11 +200,11 @@ fn fresh_normal_form(
     )
 }
 
-/// The normal form of the expression `e`, where `outside` binders stand outside, with the proof of
-/// their equation. The outermost binder is that of the steps that are left; where none are counted it
-/// isn't there, and counts all the same.
+/// Returns the normal form of the expression `e`, which is under `outside` binders, with the proof
+/// that they are equal. The outermost binder is that of the remaining steps; if no steps are
+/// counted, it doesn't exist but is counted in `outside` all the same.
 ///
-/// Errors: want of memory alone, which more results than the memo may keep are too.
+/// Errors: out of memory, or the limit of `memo` is reached.
 #[tactic(auto, using(crate::proofs::Growing::forms))]
 pub fn normal_form(
     table: &mut Table,

@@ -1,7 +1,6 @@
 //! Proofs of relations by the normal forms of their expressions.
 //!
-//! Errors: want of memory alone, which more shifts than the memo may keep are too; each id keeps
-//! its tree.
+//! Errors: out of memory, or the memo's limit for shifts is reached; each id keeps its tree.
 
 ghost use Rattle.std.specs.Prelude.{◌≡◌, IfOk};
 ghost use Rattle.term_table.specs.Table.{IsKnown, tree_at, Extends, Stands};
@@ -52,7 +51,7 @@ fn second_moved(
     Ok(moved)
 }
 
-/// The proof of the relation of `a` and the word `w`, where `a` equals the word `v`.
+/// The proof of the relation of `a` and the word `w`, if `a` equals the word `v`.
 #[tactic(auto, using(hereditary_subst::proofs::Rows::rows))]
 fn first_moved(
     table: &mut Table,
@@ -84,7 +83,7 @@ fn first_moved(
     Ok(moved)
 }
 
-/// The proof that `a` equals `b`, whose normal forms `p` and `q` are one.
+/// Builds the proof that `a` equals `b`, whose normal forms `p` and `q` are equal.
 #[tactic(auto, using(hereditary_subst::proofs::Rows::rows))]
 pub fn equal_proof(
     table: &mut Table,
@@ -140,7 +139,7 @@ fn words_proof(
     second_moved(table, memo, rel, a, b, q, first)
 }
 
-/// The proof of the relation, where both normal forms are words of which it holds.
+/// The proof of the relation, if both normal forms are words of which it holds.
 #[tactic(auto, using(hereditary_subst::proofs::Rows::rows))]
 fn held_of_words(
     table: &mut Table,
@@ -180,7 +179,7 @@ fn held_of_words(
     }
 }
 
-/// The proof that `a` equals `b`, where the normal forms are one; none of another relation.
+/// The proof that `a` equals `b`, if the normal forms are equal; None for another relation.
 #[tactic(auto, using(hereditary_subst::proofs::Rows::rows))]
 fn equal_forms(
     table: &mut Table,
@@ -221,10 +220,10 @@ fn equal_forms(
     }
 }
 
-/// The proof of the relation of `a` and `b` by their normal forms `p` and `q`: if these are words
-/// of which it holds, or if they are one and it is equality.
+/// Returns the proof of the relation between `a` and `b` by their normal forms `p` and `q`, if
+/// these are words of which it holds, or if they are equal and the relation is equality; else None.
 ///
-/// Errors: want of memory alone, which more shifts than the memo may keep are too.
+/// Errors: out of memory, or the limit of `memo` for shifts is reached.
 #[tactic(auto, using(hereditary_subst::proofs::Rows::rows))]
 pub fn proof_by_forms(
     table: &mut Table,

@@ -1,12 +1,11 @@
-//! Proofs that expressions equal their normal forms, and what stands in normal forms, on ids of a
-//! table.
+//! Proves that expressions equal their normal forms, and compares normal forms as sums.
 //!
-//! The layer above uses that `normal_form`, `proof_by_forms`, `rest_of`, `eighth` and `occurs` answer
-//! what the class's definitions give (`prover_class`, `specs/NormalForms`, `specs/Goals` and
-//! `specs/Access`): the expression, and the proof as a term, for which the ids stand. Which rule
-//! rewrites an expression, and whether a proof is wanted at all, is told by `normal_forms`. Normal forms
-//! with their proofs, and occurrences, are kept by the expression's id, so a shared expression has each
-//! found once. Source: Necula, Proof-Carrying Code, POPL 1997 (the rules of arithmetic).
+//! The layer above uses that `normal_form`, `proof_by_forms`, `rest_of`, `eighth` and `occurs`
+//! return what the definitions of `prover_class` give (`specs/NormalForms`, `specs/Goals` and
+//! `specs/Access`): the id of the expression, and the id of the proof term. `normal_forms` decides
+//! which rule rewrites an expression, and whether a proof is needed at all. Normal forms with their
+//! proofs, and occurrences, are cached by the expression's id, so each is found once for a shared
+//! expression. Source: Necula, Proof-Carrying Code, POPL 1997 (the rules of arithmetic).
 #![tactic(auto)]
 
 mod equations;

@@ -1,4 +1,4 @@
-//! Whether variable 0 stands in an expression.
+//! Whether variable 0 occurs in an expression.
 
 ghost use Rattle.std.specs.Prelude.{◌≡◌, IfOk, OnOk};
 ghost use Rattle.term_table.specs.Table.{IsKnown, tree_at};
@@ -10,12 +10,12 @@ use formula_ids::{ExpNode, Kept, MemNode, Question, exp_node, mem_node, number};
 use hereditary_subst::{Exhausted, Memo};
 use term_table::{Id, Table};
 
-/// Whether variable 0 stands in an entry.
+/// A cache key: a node in which variable 0 may occur.
 #[derive(Clone, Copy, PartialEq, Eq, PartialOrd, Ord)]
 pub enum Occurring {
-    /// In an expression.
+    /// An expression.
     Exp(u64),
-    /// In a memory.
+    /// A memory.
     Mem(u64),
 }
 
@@ -33,12 +33,13 @@ impl Question for Occurring {
     ghost lasts = { λ _ t u q b e _ h. occurrence-lasts t u q b e h };
 }
 
-/// What is known of where variable 0 stands, on one table.
+/// Cached answers whether variable 0 occurs, on one table.
 pub type Occurrences = Kept<Occurring>;
 
-/// Whether variable 0 stands in the expression `e`, with what `kept` has of earlier calls on the table.
+/// Returns whether variable 0 occurs in the expression `e`. `kept` has the cached answers of
+/// earlier calls on the table.
 ///
-/// Errors: want of memory alone, which more results than the memo may keep are too.
+/// Errors: out of memory, or the limit of `memo` is reached.
 #[cycle(occurring)]
 pub fn occurs(
     table: &Table,
@@ -62,7 +63,7 @@ pub fn occurs(
     Ok(occurs)
 }
 
-/// The same, by the expression's parts.
+/// Whether variable 0 occurs in the expression, by its parts.
 #[cycle(occurring)]
 fn occurs_in_parts(
     table: &Table,
@@ -93,7 +94,7 @@ fn occurs_in_parts(
     }
 }
 
-/// Whether variable 0 stands in the memory.
+/// Whether variable 0 occurs in the memory.
 #[cycle(occurring)]
 fn occurs_in_mem(
     table: &Table,
@@ -117,7 +118,7 @@ fn occurs_in_mem(
     Ok(occurs)
 }
 
-/// The same, by the memory's parts.
+/// Whether variable 0 occurs in the memory, by its parts.
 #[cycle(occurring)]
 fn occurs_in_mem_parts(
     table: &Table,

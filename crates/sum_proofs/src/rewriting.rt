@@ -1,6 +1,6 @@
-//! Single rewritings of expressions, with the proofs of their equations.
+//! Single rewriting steps of expressions, with the proofs of their equations.
 //!
-//! Errors: want of memory alone; each id keeps its tree.
+//! Errors: out of memory, or the limit of the memo is reached; each id keeps its tree.
 
 ghost use Rattle.std.specs.Prelude.{◌≡◌, ◌<◌, ℕ, IfOk, List};
 ghost use Rattle.term_table.specs.Table.{IsKnown, tree_at, Extends};
@@ -42,8 +42,8 @@ use normal_forms::{
 use term_table::{Id, Node, Table};
 use word_ops::Op;
 
-/// One rewriting: `into` is the expression with variable 0 in the place of what is rewritten, where
-/// `from` becomes `to` by the proof; `after` is the whole expression then.
+/// One rewriting: `into` is the expression with variable 0 in the place of what is rewritten,
+/// `from` is rewritten to `to` by the proof, and `after` is the whole expression then.
 #[derive(Clone, Copy)]
 pub(crate) struct Rewrite {
     pub(crate) into: Id,
@@ -53,7 +53,7 @@ pub(crate) struct Rewrite {
     pub(crate) after: Id,
 }
 
-/// What is rewritten at one place, one after another.
+/// The rewritings at one place, one after another.
 #[derive(Clone, Copy)]
 pub(crate) enum Rewrites {
     /// There is nothing to rewrite.
@@ -408,7 +408,7 @@ fn all_under_right(
     }
 }
 
-/// What the operator `op` at `a` and `b`, which is `e`, is rewritten to by the rule.
+/// The rewritings of the operator `op` at `a` and `b`, which is `e`, by the rule.
 #[tactic(auto, using(hereditary_subst::proofs::Rows::rows))]
 fn rewrites_by(
     table: &mut Table,
@@ -450,7 +450,7 @@ fn rewrites_by(
     }
 }
 
-/// What is rewritten first in the expression, if anything is.
+/// The first rewriting in the expression, if there is one.
 #[cycle(redex)]
 #[tactic(auto, using(hereditary_subst::proofs::Rows::rows))]
 pub(crate) fn redex(
@@ -473,7 +473,7 @@ pub(crate) fn redex(
     }
 }
 
-/// What is rewritten first in the operator at `a` and `b`, which is `e`.
+/// The first rewriting in the operator at `a` and `b`, which is `e`.
 #[cycle(redex)]
 #[tactic(auto, using(hereditary_subst::proofs::Rows::rows))]
 fn redex_of_parts(

@@ -1,4 +1,4 @@
-//! Normal forms as sums: their summands, their literal, and what is left of one without another.
+//! Normal forms as sums: their summands, their literal, and the difference of two of them.
 
 ghost use Rattle.std.specs.Prelude.{◌≡◌, List, ◌∷◌, [], IfOk, IfSome};
 ghost use Rattle.term_table.specs.Table.{IsKnown, AllKnown, tree_at, Extends};
@@ -14,7 +14,7 @@ use std::alloc::AllocError;
 use term_table::{Id, Node, Table};
 use word_ops::{Op, apply};
 
-/// Adds the summands of a normal form at the end; answers its literal.
+/// Appends the summands of a normal form; returns its literal.
 fn add_summands(table: &Table, e: Id, list: &mut Vec<u64>) -> Result<u64, AllocError>
     requires e { IsKnown table.now e }
     requires list { AllKnown table.now list.old.items }
@@ -34,7 +34,8 @@ fn add_summands(table: &Table, e: Id, list: &mut Vec<u64>) -> Result<u64, AllocE
     Ok(0)
 }
 
-/// How many summands the sum has that the id encodes, its last part among them; what is no sum has one.
+/// Returns how many summands the sum has that the id encodes, its last part among them; 1 if it
+/// isn't a sum.
 pub fn summand_count(table: &Table, e: Id) -> u64
     requires { IsKnown table.now e }
 {
@@ -44,7 +45,7 @@ pub fn summand_count(table: &Table, e: Id) -> u64
     }
 }
 
-/// Where the number stands first, from the place on.
+/// The first index of the number in the list, from `from` on.
 fn place_of(list: &[u64], a: u64, from: usize) -> Option<usize>
     ensures { IsFirstPlace list.now a from result }
 {
@@ -57,7 +58,7 @@ fn place_of(list: &[u64], a: u64, from: usize) -> Option<usize>
     place_of(list, a, from + 1)
 }
 
-/// Takes the first that is the expression away; false where there is none.
+/// Removes the first that is the expression; returns false if there is none.
 fn take_away(table: &Table, list: &mut Vec<u64>, a: u64) -> bool
     requires list { AllKnown table.now list.old.items }
     requires a { IsKnown table.now a }
@@ -76,7 +77,7 @@ fn take_away(table: &Table, list: &mut Vec<u64>, a: u64) -> bool
     }
 }
 
-/// Takes each of the second list away; false where one is missing.
+/// Removes each of the second list; returns false if one is missing.
 fn take_all_away(table: &Table, list: &mut Vec<u64>, others: &[u64]) -> bool
     requires list { AllKnown table.now list.old.items }
     requires others { AllKnown table.now others.now }
@@ -127,10 +128,10 @@ fn sum_id(table: &mut Table, summands: &[u64], literal: u64) -> Result<Id, Alloc
     }
 }
 
-/// What is left of the normal form `a` without the normal form `b`: none where a summand of `b` is
-/// missing in `a`.
+/// Returns what remains of the normal form `a` after removing the summands of the normal form `b`
+/// and subtracting its literal: None if a summand of `b` is missing in `a`.
 ///
-/// Errors: want of memory alone; each id keeps its tree.
+/// Errors: out of memory alone; each id keeps its tree.
 pub fn rest_of(table: &mut Table, a: Id, b: Id) -> Result<Option<Id>, AllocError>
     requires a { IsKnown table.old a }
     requires b { IsKnown table.old b }
@@ -151,9 +152,10 @@ pub fn rest_of(table: &mut Table, a: Id, b: Id) -> Result<Option<Id>, AllocError
     Ok(Some(sum_id(table, left.as_slice(), apply(Op::Sub, of_a, of_b))?))
 }
 
-/// t where the expression is t shifted left by 3; a literal shifted right by 3; none of any other.
+/// Returns t if the expression is t shifted left by 3, a literal shifted right by 3, and None for
+/// any other expression.
 ///
-/// Errors: want of memory alone; each id keeps its tree.
+/// Errors: out of memory alone; each id keeps its tree.
 pub fn eighth(table: &mut Table, rest: Id) -> Result<Option<Id>, AllocError>
     requires { IsKnown table.old rest }
     ensures known { IfOk result (λ o. IfSome o (IsKnown table.new)) }

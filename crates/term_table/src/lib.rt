@@ -1,11 +1,12 @@
-//! LF's terms and types, each kept once in a table of shared nodes, with its height and weight.
+//! A hash-consing table of LF terms and types, which also stores each node's height and weight.
 //!
-//! Contracts see a table as a list of finite trees, an id being a place in it (`specs/Table`): the
-//! layers above use that `intern` gives the id of the node's tree, and that every id keeps its tree
-//! through each later call, also one that finds no memory. The definitions of LF that all layers
-//! above share stand here: trees and shifts (`specs/Tree`), simple types and hereditary substitution
-//! (`specs/Subst`), and measures (`specs/Measures`). Source: Harper, Honsell and Plotkin, A Framework
-//! for Defining Logics, JACM 1993, in its canonical presentation.
+//! Each tree is in the table once. Contracts see a table as a list of finite trees and an id as an
+//! index into it (`specs/Table`). The layers above use two facts: `intern` returns the id of the
+//! node's tree, and every id keeps its tree through each later call, also through a call that runs
+//! out of memory. This crate also has the definitions of LF that all layers above share: trees and
+//! shifts (`specs/Tree`), simple types and hereditary substitution (`specs/Subst`), and measures
+//! (`specs/Measures`). Source: Harper, Honsell and Plotkin, A Framework for Defining Logics, JACM
+//! 1993, in its canonical presentation.
 #![tactic(auto)]
 
 mod theorems;
@@ -23,7 +24,7 @@ use std::collections::BTreeMap;
 use std::marker::Model;
 pub use theorems::{shift_laws, substitution_laws};
 
-/// The place of a tree in its table. Contracts see it as a number.
+/// The index of a tree in its table. Contracts see it as a number.
 #[derive(Clone, Copy, PartialEq, Eq, PartialOrd, Ord, Hash, Debug)]
 pub struct Id(u64);
 
@@ -38,7 +39,7 @@ impl Model for Id {
 }
 
 impl Id {
-    /// How many trees the table had before this one.
+    /// Returns the index: how many trees the table had before this one.
     pub fn index(self) -> usize
         ensures { result ≡ self }
     {
@@ -46,37 +47,38 @@ impl Id {
     }
 }
 
-/// A tree whose parts are ids of the table.
+/// A node of the term graph: its children are ids of the table.
 #[derive(Clone, Copy, PartialEq, Eq, PartialOrd, Ord, Hash, Debug)]
 pub enum Node {
-    /// A variable; 0 is the nearest binder.
+    /// A variable as a de Bruijn index; 0 is the nearest binder.
     Var(u32),
-    /// A constant of the signature.
+    /// A constant of the signature, by its number.
     Const(u32),
     /// A 64-bit word.
     Lit(u64),
-    /// An operator at two words: that it gives what it gives.
+    /// The evaluation of an operator, by its number, at two words: it proves what the operator
+    /// gives.
     Calc(u32, u64, u64),
-    /// A relation at two words: that it holds.
+    /// A proof that a relation, by its number, holds of two words.
     Fact(u32, u64, u64),
-    /// A relation at two words: that it doesn't hold.
+    /// A proof that a relation, by its number, doesn't hold of two words.
     Deny(u32, u64, u64),
-    /// The lemma of a number: a proof of its formula, where a signature has one.
+    /// The lemma with this number: a proof of its formula, if the signature has such a lemma.
     Lemma(u32),
-    /// A term applied to a term.
+    /// A term applied to a term: function, argument.
     App(Id, Id),
-    /// A term under a binder.
+    /// The abstraction of a term: its body, under one more binder.
     Lam(Id),
-    /// A family of types.
+    /// A type family, by its number.
     Fam(u32),
-    /// A type applied to a term.
+    /// A type family applied to a term.
     TApp(Id, Id),
-    /// The type of functions from a type to a type under a binder.
+    /// A dependent function type: its domain, and its codomain under one more binder.
     Pi(Id, Id),
 }
 
-/// For each numbered constant, how many of its first arguments are parameters; 0 past the end. An
-/// argument in such a place counts 1 in a weight, whatever it is.
+/// How many of its first arguments are parameters, for each numbered constant; 0 past the end. An
+/// argument in a parameter position counts 1 in a weight, whatever it is.
 #[derive(Clone, Copy)]
 pub struct Places {
     counts: &'static [u8],
@@ -91,14 +93,14 @@ static PARAMETERS: [u8; 105] = [
 ];
 
 impl Places {
-    /// The constants' counts, by number.
+    /// Returns the places with these counts, one for each constant by number.
     pub fn of(counts: &'static [u8]) -> Places
         ensures { counts_of result ≡ counts.now }
     {
         Places { counts }
     }
 
-    /// The counts of the first signature of word arithmetic, Sigma1: constants 0 to 87.
+    /// Returns the counts of Sigma1, the first signature of word arithmetic: constants 0 to 87.
     pub fn sigma1() -> Places
         ensures { counts_of result ≡ sigma1_places }
     {
@@ -107,7 +109,7 @@ impl Places {
         }
     }
 
-    /// The counts of the second, Sigma2: constants 0 to 103.
+    /// Returns the counts of Sigma2, the second signature: constants 0 to 103.
     pub fn sigma2() -> Places
         ensures { counts_of result ≡ sigma2_places }
     {
@@ -116,7 +118,7 @@ impl Places {
         }
     }
 
-    /// The counts of the third, Sigma3: constants 0 to 104.
+    /// Returns the counts of Sigma3, the third signature: constants 0 to 104.
     pub fn sigma3() -> Places
         ensures { counts_of result ≡ sigma3_places }
     {
@@ -191,7 +193,7 @@ fn outside(reach: u32) -> u32
     }
 }
 
-/// The reach of two parts, where they may stand together.
+/// The reach of two parts, if they may be parts of one term or type.
 fn joined(first: bool, second: bool, a: u32, b: u32) -> u32
     ensures { result ≡ (if first && second then max a b else 4294967295) }
 {
@@ -298,7 +300,7 @@ fn entry_of(entries: &[Entry], places: Places, node: Node) -> Entry
     }
 }
 
-/// What the fields' types say of a node's numbers.
+/// States that a node's numbers fit their fields, by the fields' types; runs nothing.
 fn numbers(node: Node)
     ensures { IsSmallNode node }
 {
@@ -309,11 +311,11 @@ fn numbers(node: Node)
     }
 }
 
-/// A node as the index has it, by that of its parts that came in last. So trees that come in one
-/// behind the other stand together there, however old their other parts are.
+/// The key of a node in the index, which begins with its latest child's id. So trees that are added
+/// one after another are neighbours there, however old their other parts are.
 #[derive(Clone, Copy, PartialEq, Eq, PartialOrd, Ord)]
 enum Key {
-    /// The id of that part, or 0 where there is none, and the node.
+    /// The id of the latest child, or 0 if there is none, and the node.
     Of(u64, Node),
 }
 
@@ -329,7 +331,7 @@ fn key_of(node: &Node) -> Key
     Key::Of(latest, *node)
 }
 
-/// Trees without repeats: two ids are equal exactly where their trees are.
+/// A table of trees without repeats: two ids are equal exactly if their trees are.
 #[derive(Drop)]
 pub struct Table {
     places: Places,
@@ -356,7 +358,7 @@ impl Model for Table {
 }
 
 impl Table {
-    /// A table without trees, which takes no memory yet. Weights will go by `places`.
+    /// Returns an empty table, which allocates nothing yet. Its weights go by `places`.
     pub fn new(alloc: Global, places: Places) -> Table
         ensures { result ≡ record { trees = []; places = counts_of places } }
     {
@@ -367,7 +369,7 @@ impl Table {
         }
     }
 
-    /// The allocator that the table's memory comes from.
+    /// Returns the allocator that the table's memory comes from.
     pub fn allocator(&self) -> Global {
         *self.entries.allocator()
     }
@@ -382,7 +384,7 @@ impl Table {
         self.entries[id.0 as usize]
     }
 
-    /// The node of an id. Its parts have lower ids.
+    /// Returns the node of an id. Its children have lower ids.
     pub fn node(&self, id: Id) -> Node
         requires { IsKnown self.now id }
         ensures tree { node_tree self.now result ≡ tree_at self.now id }
@@ -391,8 +393,8 @@ impl Table {
         self.entry(id).node
     }
 
-    /// The height of a tree: 1 without parts, else one more than its highest part. Past
-    /// 4,294,967,295 it answers that.
+    /// Returns the height of a tree: 1 without children, else one more than its highest child.
+    /// Saturates at 4,294,967,295.
     pub fn height(&self, id: Id) -> u32
         requires { IsKnown self.now id }
         ensures { result ≡ capped (height_of (tree_at self.now id)) }
@@ -400,9 +402,9 @@ impl Table {
         self.entry(id).height
     }
 
-    /// The weight of a tree: a head weighs 1 and what its arguments count, which is 1 in a
-    /// parameter place of a numbered constant and else their weight; anything else weighs 1 and
-    /// its parts. Past 4,294,967,295 it answers that.
+    /// Returns the weight of a tree, saturated at 4,294,967,295. An atomic term weighs 1 for its
+    /// head plus its arguments: an argument in a parameter position of a numbered constant counts
+    /// 1, any other its own weight. Any other tree weighs 1 plus its children.
     pub fn weight(&self, id: Id) -> u32
         requires { IsKnown self.now id }
         ensures { result ≡ capped (weight_of self.now.places (tree_at self.now id)) }
@@ -410,8 +412,9 @@ impl Table {
         self.entry(id).weight
     }
 
-    /// How far a tree's variables reach: below 4,294,967,295 the tree is a canonical term or a type,
-    /// and each of its variables is bound, or among so many next outside.
+    /// Returns how far the free variables of a tree reach. If the result is below 4,294,967,295,
+    /// the tree is a canonical term or a type, and each of its variables is bound or is one of that
+    /// many nearest free ones. The result 4,294,967,295 says nothing.
     pub fn reach(&self, id: Id) -> u32
         requires { IsKnown self.now id }
         ensures { HasReach result (tree_at self.now id) }
@@ -419,14 +422,14 @@ impl Table {
         self.entry(id).reach
     }
 
-    /// How many trees the table has.
+    /// Returns how many trees the table has.
     pub fn count(&self) -> u64
         ensures { result ≡ length self.now.trees }
     {
         self.entries.len() as u64
     }
 
-    /// The id whose index this is: that of the tree that came in after so many others.
+    /// Returns the id with this index: the id of the tree that was added after `index` others.
     pub fn id(&self, index: u64) -> Id
         requires { IsKnown self.now index }
         ensures { result ≡ index }
@@ -435,8 +438,8 @@ impl Table {
         Id(index)
     }
 
-    /// What holds of every table, with nothing to run: different ids have different trees, each
-    /// tree's numbers fit their fields, and the trees are fewer than 2^63.
+    /// States what holds of every table; runs nothing. Different ids have different trees, each
+    /// tree's numbers fit their fields, and there are fewer than 2^63 trees.
     pub fn laws(&self)
         ensures different { AreDifferent self.now.trees }
         ensures small { AreSmall self.now.trees }
@@ -445,7 +448,7 @@ impl Table {
         let _ = &self.entries;
     }
 
-    /// Whether two ids stand for one tree.
+    /// Returns whether two ids have equal trees.
     pub fn same(&self, a: Id, b: Id) -> bool
         requires a { IsKnown self.now a }
         requires b { IsKnown self.now b }
@@ -455,10 +458,10 @@ impl Table {
         a == b
     }
 
-    /// The id of a node's tree, which is added where the table lacks it. The parts may be any ids of
-    /// the table, also where the node is then no term or type of LF.
+    /// Returns the id of a node's tree, and adds the tree if the table lacks it. The children may
+    /// be any ids of the table, also if the node is then no term or type of LF.
     ///
-    /// Fails only where memory does; the table then has the trees that it had.
+    /// Errors: out of memory; the table then has the trees that it had.
     pub fn intern(&mut self, node: Node) -> Result<Id, AllocError>
         requires { PartsKnown self.old node }
         ensures id { IfOk result

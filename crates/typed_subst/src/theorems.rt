@@ -1,4 +1,4 @@
-//! What holds of the definitions, with nothing to run.
+//! Theorems about the definitions; their functions run nothing.
 
 ghost use Rattle.std.specs.Prelude.{◌≡◌, ℕ, Option, List, ◌∷◌, ◌++◌, length, ◌⊎◌};
 ghost use Rattle.term_table.specs.Tree.{Tree, Const, shift};
@@ -7,11 +7,12 @@ ghost use Rattle.lf_signature.specs.Typing.{Checks};
 ghost use Rattle.lf_signature.specs.Simply.{simply, erased};
 ghost use Rattle.typed_subst.specs.Overflow.{Overflows, HasOneResult};
 
-/// Where `m` checks at `a` in a context, and `n` at `b` where a variable of type `a` and the types
-/// `inner` stand further in, `m` put for that variable in `n` has exactly one result, which checks
-/// at `b`'s simple type, unless a variable would reach 2 ^ 32 (`typed`). That it checks at the
-/// substituted type isn't said. Where a variable would, there is no result (`overflow`), so
-/// "unless" is exact.
+/// States that substitution on well-typed input has exactly one result. Let `m` check against `a`
+/// in a context, and `n` against `b` in that context extended by a variable of type `a` and then by
+/// the types `inner`. Then `m` put for that variable in `n` has exactly one result, which checks
+/// against the simple type of `b`, unless a variable would reach 2 ^ 32 (`typed`). The theorem
+/// doesn't say that the result checks against the substituted type. If a variable would reach 2 ^
+/// 32, there is no result (`overflow`), so "unless" is exact.
 pub fn laws()
     ensures typed { (sig : Const → Option Tree) (ctx inner : List Tree) (m n a b : Tree) →
         Checks sig ctx m a → Checks sig (inner ++ a ∷ ctx) n b →

@@ -1,4 +1,4 @@
-//! What holds where a conditional branch is taken, and where it isn't.
+//! The conditions under which a conditional branch is taken and isn't taken.
 
 ghost use Rattle.std.specs.Prelude.{IfOk};
 ghost use Rattle.term_table.specs.Table.{IsKnown, tree_at, Extends};
@@ -14,7 +14,7 @@ use std::alloc::AllocError;
 use term_table::{Id, Node, Table};
 use word_ops::{Op, Rel, op_constant};
 
-/// That the relation holds of the term and 0.
+/// The formula that the relation holds of the term and 0.
 fn against_zero(table: &mut Table, rel: Rel, x: Id) -> Result<Id, AllocError>
     requires { IsKnown table.old x }
     ensures id { IfOk result (IsIdOf table.new (rel_term rel (tree_at table.old x) (lit 0))) }
@@ -24,7 +24,7 @@ fn against_zero(table: &mut Table, rel: Rel, x: Id) -> Result<Id, AllocError>
     app2(table, rel_constant(rel), x, zero)
 }
 
-/// That the lowest bit of the term is 0.
+/// The formula that the lowest bit of the term is 0.
 fn low_clear(table: &mut Table, x: Id) -> Result<Id, AllocError>
     requires { IsKnown table.old x }
     ensures id { IfOk result (IsIdOf table.new (tested_term LowClear (tree_at table.old x))) }
@@ -35,7 +35,7 @@ fn low_clear(table: &mut Table, x: Id) -> Result<Id, AllocError>
     against_zero(table, Rel::Eq, bit)
 }
 
-/// What the condition tests of the register's term `x`.
+/// The formula that the condition tests of the register's term `x`.
 pub(crate) fn tested(table: &mut Table, cond: Cond, x: Id) -> Result<Id, AllocError>
     requires { IsKnown table.old x }
     ensures id { IfOk result (IsIdOf table.new (tested_term cond (tree_at table.old x))) }
@@ -49,7 +49,7 @@ pub(crate) fn tested(table: &mut Table, cond: Cond, x: Id) -> Result<Id, AllocEr
     }
 }
 
-/// That the formula of the term doesn't hold.
+/// The negation of `formula`.
 fn negated(table: &mut Table, formula: Id) -> Result<Id, AllocError>
     requires { IsKnown table.old formula }
     ensures id { IfOk result (IsIdOf table.new (not_term (tree_at table.old formula))) }
@@ -59,7 +59,7 @@ fn negated(table: &mut Table, formula: Id) -> Result<Id, AllocError>
     app2(table, IMP, formula, falsity)
 }
 
-/// What holds where the branch is taken, by what is tested.
+/// The formula that holds if the branch is taken, by the tested term.
 pub(crate) fn taken(table: &mut Table, cond: Cond, tested: Id) -> Result<Id, AllocError>
     requires { IsKnown table.old tested }
     ensures id { IfOk result (IsIdOf table.new (taken_term cond (tree_at table.old tested))) }
@@ -71,7 +71,7 @@ pub(crate) fn taken(table: &mut Table, cond: Cond, tested: Id) -> Result<Id, All
     }
 }
 
-/// What holds where it isn't taken.
+/// The formula that holds if the branch isn't taken, by the tested term.
 pub(crate) fn passed(table: &mut Table, cond: Cond, tested: Id) -> Result<Id, AllocError>
     requires { IsKnown table.old tested }
     ensures id { IfOk result (IsIdOf table.new (passed_term cond (tree_at table.old tested))) }

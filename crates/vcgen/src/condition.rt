@@ -29,7 +29,7 @@ use policy_set::Policy;
 use std::alloc::AllocError;
 use term_table::{Id, Node, Table};
 
-/// The greatest unfolded length of code that has a verification condition here.
+/// The greatest total length of the paths between cut points for which `vc` builds a condition.
 pub const MAX_UNFOLDED: u32 = 65_536;
 
 /// The greatest height of an invariant's term.
@@ -58,7 +58,8 @@ fn whole_machine(table: &mut Table, formula: Id) -> Result<Id, AllocError>
     quantified(table, ALLM, words)
 }
 
-/// The same, and where steps are counted for all numbers of them.
+/// The formula for all memories and registers, and if steps are counted for all numbers of
+/// remaining steps.
 fn closed(table: &mut Table, bound: Option<u32>, formula: Id) -> Result<Id, AllocError>
     requires { IsKnown table.old formula }
     ensures id { IfOk result (IsIdOf table.new (closed_term bound (tree_at table.old formula))) }
@@ -71,8 +72,8 @@ fn closed(table: &mut Table, bound: Option<u32>, formula: Id) -> Result<Id, Allo
     }
 }
 
-/// That one formula leads to the other, for all memories and registers, and where steps are counted
-/// for all numbers of them.
+/// The formula that one formula implies the other, for all memories and registers, and if steps are
+/// counted for all numbers of remaining steps.
 fn part(table: &mut Table, bound: Option<u32>, from: Id, to: Id) -> Result<Id, AllocError>
     requires from { IsKnown table.old from }
     requires to { IsKnown table.old to }
@@ -148,7 +149,8 @@ fn condition_of(
     Ok(app2(table, AND, entry, rest)?)
 }
 
-/// The encoding of the condition of code, its unfolded length being within its limit.
+/// The encoding of the condition of code. The total length of the paths between cut points has to
+/// be within its limit.
 #[tactic(auto, using(crate::proofs::Walking::memos))]
 fn encoded_condition(
     table: &mut Table,
@@ -183,16 +185,16 @@ fn encoded_condition(
     condition_of(table, shifts, &program, pre)
 }
 
-/// The encoding of the verification condition of `cut` under `policy` and `bound`, the formulas of
-/// its invariants being those that the terms of `invs` encode: each annotated index with a term of
-/// type form over the longest signature of word arithmetic, at most `MAX_HEIGHT` high, in rising
-/// order of indices. Where `bound` is None steps aren't counted, and the terms are in the context
-/// m, r0 to r30; else it is the most steps that the code may make, and they are in the context
-/// left, m, r0 to r30.
+/// Builds the encoding of the verification condition of `cut` under `policy` and `bound`. The terms
+/// of `invs` encode the invariants: each cut point has a well-typed formula over the longest
+/// signature of word arithmetic, at most `MAX_HEIGHT` high, and the indices rise. If `bound` is
+/// None, steps aren't counted, and the terms are in the context m, r0 to r30. Else `bound` is the
+/// most steps that the code may make, and they are in the context left, m, r0 to r30.
 ///
-/// Errors: `UnfoldLimit` names the unfolded length exactly where it exceeds `MAX_UNFOLDED`, which is
-/// tested first; `Memory` says nothing of the condition, nor does `Results`, which more than
-/// `MOST_RESULTS` results of substitution are. Each id keeps its tree.
+/// Errors: `UnfoldLimit` names the total length of the paths between cut points exactly if it
+/// exceeds `MAX_UNFOLDED`, which is tested first. `Memory` says nothing about the condition.
+/// Neither does `Results`, which comes if more than `MOST_RESULTS` results of substitution would be
+/// cached. Each id keeps its tree.
 pub fn vc(
     table: &mut Table,
     cut: &Cut,

@@ -1,4 +1,4 @@
-//! What an instruction does to the terms for registers, memory and the steps that are left.
+//! The effect of an instruction on the terms for registers, memory and remaining steps.
 
 ghost use Rattle.std.specs.Prelude.{◌≡◌, ◌<◌, Some, IfOk, IfSome, length, slice_get};
 ghost use Rattle.alpha_cfg.specs.Flow.{next_of};
@@ -22,19 +22,20 @@ use lf_signature::numbers::{RD, WR};
 use std::alloc::AllocError;
 use term_table::{Id, Table};
 
-/// What an instruction does to the terms on a walk, and where the walk goes on.
+/// The effect of an instruction on the terms of a walk, and where the walk goes on.
 #[derive(Clone, Copy)]
 pub enum Effect {
     /// The walk goes on at the next index, with these terms.
     Computed(Symbols),
-    /// It does so behind an access, for which the formula has to hold.
+    /// The formula has to hold for an access; then the walk goes on at the next index, with these
+    /// terms.
     Access(Id, Symbols),
-    /// It goes on to the index where the first formula holds, and to the next index where the second
-    /// does, with the terms that it had.
+    /// The walk goes on, with its terms unchanged, to the index if the first formula holds, and to
+    /// the next index if the second holds.
     Split(Id, Id, u32),
-    /// It goes on to the index, with the terms that it had.
+    /// The walk goes on to the index, with its terms unchanged.
     Jump(u32),
-    /// It ends.
+    /// The walk ends.
     Return,
 }
 
@@ -104,8 +105,10 @@ fn store(
     Ok((allowed, symbols.with_memory(table, memory)))
 }
 
-/// What a step asks and does where steps are counted: the formula that one is left, and the terms
-/// after it, where there is one less. Fails only for want of memory; each id keeps its tree.
+/// Returns what a counted step requires and does: the formula that a step is left, and the terms
+/// after it, with one step less left.
+///
+/// Errors: out of memory alone; each id keeps its tree.
 pub fn counted_step(table: &mut Table, symbols: &Symbols) -> Result<(Id, Symbols), AllocError>
     requires ready { AreMachineTerms table.old (ids_of symbols.now) }
     ensures allowed { let terms = machine_terms_at table.old (ids_of symbols.now) in
@@ -119,7 +122,7 @@ pub fn counted_step(table: &mut Table, symbols: &Symbols) -> Result<(Id, Symbols
     Ok((allowed, after))
 }
 
-/// What has to hold where a conditional branch is taken, and where it isn't.
+/// The formulas that hold if a conditional branch is taken, and if it isn't.
 fn split(table: &mut Table, symbols: &Symbols, cond: Cond, ra: Reg) -> Result<(Id, Id), AllocError>
     requires ready { AreMachineTerms table.old (ids_of symbols.now) }
     ensures taken { let terms = machine_terms_at table.old (ids_of symbols.now) in
@@ -136,8 +139,9 @@ fn split(table: &mut Table, symbols: &Symbols, cond: Cond, ra: Reg) -> Result<(I
     Ok((taken, passed(table, cond, tested)?))
 }
 
-/// The effect on the terms of the instruction `insn`, which stands at `index` of the code. Fails only
-/// for want of memory; each id keeps its tree.
+/// Returns the effect on the terms of the instruction `insn`, which is at `index` of the code.
+///
+/// Errors: out of memory alone; each id keeps its tree.
 pub fn effect_at(
     table: &mut Table,
     code: &Code,

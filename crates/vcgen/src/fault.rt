@@ -9,14 +9,14 @@ use thiserror::Error;
 /// Why there is no verification condition.
 #[derive(Clone, Copy, Debug, PartialEq, Eq, Error)]
 pub enum VcFault {
-    /// The unfolded length, which is past `MAX_UNFOLDED`.
-    #[error("the unfolded length is {0}")]
+    /// The total length of the paths between cut points, which is above `MAX_UNFOLDED`.
+    #[error("the paths between invariants have {0} instructions in all, which is too many")]
     UnfoldLimit(u32),
-    /// There was no memory for the condition.
+    /// The call ran out of memory.
     #[error("out of memory")]
     Memory,
-    /// More results of substitution would have been kept than the limit allows.
-    #[error("too many results")]
+    /// The call would have cached more results of substitution than the limit allows.
+    #[error("the call would cache too many results")]
     Results,
 }
 

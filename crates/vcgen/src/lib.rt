@@ -1,14 +1,16 @@
-//! Verification conditions of annotated code.
+//! The verification condition generator, with the theorem that code whose condition is true is
+//! safe.
 //!
-//! The layers above use that `vc` makes the encoding of the verification condition of code under a
-//! policy, and the laws: code whose condition is true is safe, and where its steps are counted it
-//! returns within the bound. Conditions stand in `specs/Conditions`, what safe is in `specs/Safety`.
+//! The layers above use that `vc` builds the encoding of the verification condition of annotated
+//! code under a policy, and the laws: code whose condition is true is safe, and if its steps are
+//! counted it returns within the step bound. Conditions are defined in `specs/Conditions`, safety
+//! in `specs/Safety`.
 //!
-//! The walk over code that makes the condition goes by terms for the machine's variables (`Symbols`)
-//! and by what each instruction does to them (`effect_at`, `counted_step`). `condition_match`, which
-//! compares a formula with the condition, goes by the same; the walk on trees is `specs/WalkTree`, its
-//! words on ids `specs/Symbols`. Source: Necula, Proof-Carrying Code, POPL 1997; Necula and Lee, Safe
-//! Kernel Extensions Without Run-Time Checking, OSDI 1996.
+//! The walk over code that builds the condition uses terms for the machine's variables (`Symbols`)
+//! and the effect of each instruction on them (`effect_at`, `counted_step`). `condition_match`,
+//! which compares a formula with the condition, uses these too. The walk on trees is
+//! `specs/WalkTree`, its terms on ids `specs/Symbols`. Source: Necula, Proof-Carrying Code, POPL
+//! 1997; Necula and Lee, Safe Kernel Extensions Without Run-Time Checking, OSDI 1996.
 #![tactic(auto)]
 
 mod branches;

@@ -1,5 +1,4 @@
-//! What stands for registers, memory and the steps that are left on a walk, and the terms of
-//! operands.
+//! The terms for registers, memory and remaining steps on a walk, and the terms of operands.
 
 ghost use Rattle.std.specs.Prelude.{◌≡◌, ◌<◌, ◌≤◌, ◌^◌, true, IfOk, pos, ◌*ℤ◌};
 ghost use Rattle.term_table.specs.Tree.{shift, fits};
@@ -30,20 +29,22 @@ use word_ops::{Op, Rel, op_constant};
 /// All bits of a word but the low three.
 const HIGH_BITS: u64 = u64::MAX - 7;
 
-/// Terms for r0 to r30, for m and for the steps that are left, in the context left, m, r0 to r30.
+/// Terms for r0 to r30, for m and for the remaining steps, in the context left, m, r0 to r30.
 #[derive(Clone, Copy, PartialEq, Eq)]
 pub struct Symbols {
-    /// The terms of r0 to r30, by the registers' numbers.
+    /// The terms of r0 to r30, by register number.
     pub regs: [Id; 31],
     /// The term of m.
     pub memory: Id,
-    /// The term of the steps that are left.
+    /// The term of the number of remaining steps.
     pub left: Id,
 }
 
 impl Symbols {
-    /// Each register, m and the steps that are left for itself. Fails only for want of memory; each id
-    /// keeps its tree.
+    /// Returns the terms at the start of a walk: each register, m and the remaining steps as
+    /// itself.
+    ///
+    /// Errors: out of memory alone; each id keeps its tree.
     pub fn start(table: &mut Table) -> Result<Symbols, AllocError>
         ensures ready { IfOk result (λ s. AreMachineTerms table.new (ids_of s)) }
         ensures terms { IfOk result (λ s. machine_terms_at table.new (ids_of s) ≡ start_terms) }
@@ -58,7 +59,7 @@ impl Symbols {
         Ok(Symbols { regs, memory, left })
     }
 
-    /// Another term for a register; none is kept for register 31.
+    /// These terms, with another term for a register; register 31 gets none.
     pub(crate) fn with_reg(&self, table: &Table, reg: Reg, id: Id) -> Symbols
         requires ready { AreMachineTerms table.now (ids_of self.now) }
         requires known { IsKnown table.now id }
@@ -115,8 +116,9 @@ impl Symbols {
         }
     }
 
-    /// These terms, with the number `bound` for the steps that are left. Fails only for want of
-    /// memory; each id keeps its tree.
+    /// Returns these terms, with the number `bound` for the remaining steps.
+    ///
+    /// Errors: out of memory alone; each id keeps its tree.
     pub fn bounded(&self, table: &mut Table, bound: u32) -> Result<Symbols, AllocError>
         requires { AreMachineTerms table.old (ids_of self.now) }
         ensures after { let terms = machine_terms_at table.old (ids_of self.now) in
@@ -138,7 +140,7 @@ impl Symbols {
         app2(table, rel_constant(Rel::Ult), zero, self.left)
     }
 
-    /// The terms where one step less is left.
+    /// The terms with one remaining step less.
     pub(crate) fn one_less(&self, table: &mut Table) -> Result<Symbols, AllocError>
         requires { AreMachineTerms table.old (ids_of self.now) }
         ensures after { let terms = machine_terms_at table.old (ids_of self.now) in

@@ -1,4 +1,4 @@
-//! What holds of verification conditions, with nothing to run.
+//! Theorems about verification conditions; their functions run nothing.
 
 ghost use Rattle.std.specs.Prelude.{◌≡◌, [], None, Some};
 ghost use Rattle.policy_set.specs.declared.kind.PolicyKind.TheVariants.{Filter, Tag, Table};
@@ -19,10 +19,10 @@ ghost use Rattle.vcgen.specs.Laws.{StepsGood, RunsGood, ConditionClosed};
 ghost use Rattle.vcgen.specs.Laws.{FormsWider, EncodingExists, EncodingUnique};
 ghost use Rattle.vcgen.specs.Laws.{EncodedAnnotates, PolicySafe, PolicyReturns};
 
-/// Code whose verification condition is true in every structure is safe: from each state at index 0
-/// that satisfies the precondition no run is blocked, and a return satisfies the postcondition; where
-/// its steps are counted, it returns within the bound. What has to hold at an index holds at the
-/// start, and again after each step.
+/// States that code whose verification condition is true in every structure is safe. From each
+/// state at index 0 that satisfies the precondition no run is stopped by an access violation, and a
+/// return satisfies the postcondition; if its steps are counted, the code returns within the bound.
+/// The weakest precondition of an index holds at the start, and again after each step.
 pub fn condition_laws()
     ensures wp { WpUnfolds }
     ensures safe { ConditionSafe }
@@ -33,9 +33,9 @@ pub fn condition_laws()
     ensures closed { ConditionClosed }
 {}
 
-/// Invariants that are terms of type form, over any signature of word arithmetic, have under a
-/// policy exactly one condition; where it is true, the code is safe for the policy, and returns
-/// within the bound where there is one.
+/// States that invariants that are well-typed formulas, over any signature of word arithmetic, have
+/// exactly one condition under a policy. If it is true, the code is safe for the policy, and
+/// returns within the step bound if there is one.
 pub fn encoding_laws()
     ensures wider { FormsWider }
     ensures exists { EncodingExists }
@@ -45,8 +45,9 @@ pub fn encoding_laws()
     ensures returns { PolicyReturns }
 {}
 
-/// The conditions of small code under the policies are those of `specs/Worked`, and with bounds those
-/// of `specs/WorkedCounted`, which were written out by hand.
+/// States that the conditions of some short programs under the policies are those of
+/// `specs/Worked`, and with step bounds those of `specs/WorkedCounted`, which were written out by
+/// hand.
 pub fn worked_conditions()
     ensures filter_ret { condition (annotated (built_in Filter) None ret_alone []) ≡ filter_ret }
     ensures tag_ret { condition (annotated (built_in Tag) None ret_alone []) ≡ tag_ret }

@@ -1,8 +1,9 @@
-//! The walk forward over code, which makes the terms of conditions.
+//! The forward walk over code, which builds the terms of conditions.
 //!
-//! A walk follows the code from an index to annotated indices and returns. On code that is cut it
-//! meets no index twice on its way, so it recurses at most once for each instruction, of which there
-//! are at most 1,024; what it visits in all is the unfolded length.
+//! A walk follows the code from an index to cut points and returns. If every cycle contains a cut
+//! point, it meets no index twice on its way. So it recurses at most once for each instruction, of
+//! which there are at most 1,024. It visits in all as many instructions as the paths between cut
+//! points have.
 
 ghost use Rattle.std.specs.Prelude.{◌≡◌, ◌<◌, IfOk, None, length, slice_get};
 ghost use Rattle.word_ops.specs.declared.Rel.TheVariants.{Ult};
@@ -25,22 +26,22 @@ use lf_signature::app2;
 use lf_signature::numbers::{AND, FF, IMP};
 use term_table::{Id, Node, Table};
 
-/// What a walk goes by: the code, its invariants by their indices, what has to hold at its end, and
-/// the bound on its steps.
+/// The input of a walk: the code, its invariants by their indices, the formula that has to hold at
+/// its end, and the step bound.
 #[derive(Clone, Copy)]
 pub struct Program<'a> {
     /// The code.
     pub code: &'a Code,
-    /// Each annotated index with the term of its invariant.
+    /// Each cut point, as an instruction index, with the term of its invariant.
     pub invs: &'a [(u32, Id)],
-    /// The term of what has to hold at a return.
+    /// The term of the formula that has to hold at a return.
     pub post: Id,
-    /// The most steps that the code may make, where these are counted.
+    /// The most steps that the code may make, if steps are counted.
     pub bound: Option<u32>,
 }
 
-/// The term of the invariant of an index, by the first of the pairs that has it: None where the
-/// index isn't annotated.
+/// Returns the term of the invariant of an index, from the first pair that has the index: None if
+/// the index isn't a cut point.
 pub fn invariant(invs: &[(u32, Id)], index: u32) -> Option<Id>
     ensures { result ≡ inv_id invs.now index }
 {
@@ -80,8 +81,8 @@ pub(crate) fn walk(
     }
 }
 
-/// The same with the terms of `after`; of these nothing is kept beyond the walk. What it keeps
-/// meanwhile counts on in the limit of `shifts`.
+/// Walks with the terms of `after`, for which nothing stays cached beyond the walk. What it caches
+/// meanwhile still counts in the limit of `shifts`.
 #[cycle(walking)]
 pub(crate) fn walk_with(
     table: &mut Table,
@@ -111,7 +112,8 @@ pub(crate) fn walk_with(
     walk(table, shifts, &mut fresh, program, fuel, index, after)
 }
 
-/// That the walk from `target` holds where `taken` does, and the one from `next` where `passed` does.
+/// The formula that the walk from `target` holds if `taken` does, and the one from `next` if
+/// `passed` does.
 #[cycle(walking)]
 fn walk_both(
     table: &mut Table,
@@ -145,7 +147,7 @@ fn walk_both(
     Ok(app2(table, AND, first, second)?)
 }
 
-/// That the formula `allowed` holds, and the walk from `index` with the terms of `after`.
+/// The formula that `allowed` holds, and that the walk from `index` with the terms of `after` does.
 #[cycle(walking)]
 fn walk_behind(
     table: &mut Table,
@@ -218,7 +220,8 @@ fn walk_insn(
     }
 }
 
-/// The same with the terms of `after`; of these nothing is kept beyond the walk.
+/// Walks over the instruction with the terms of `after`, for which nothing stays cached beyond the
+/// walk.
 #[cycle(walking)]
 fn walk_insn_with(
     table: &mut Table,
@@ -250,7 +253,8 @@ fn walk_insn_with(
     walk_insn(table, shifts, &mut fresh, program, fuel, index, after)
 }
 
-/// The same where steps are counted: one has to be left, and the walk goes on with one less.
+/// Walks over the instruction if steps are counted: one has to be left, and the walk goes on with
+/// one less.
 #[cycle(walking)]
 fn walk_counted(
     table: &mut Table,
@@ -309,8 +313,8 @@ pub(crate) fn walk_from(
     }
 }
 
-/// The term of the walk from index 0, where all steps are left, if they are counted; `start` is
-/// each of the machine's variables for itself.
+/// The term of the walk from index 0, with all steps left, if they are counted; `start` has each of
+/// the machine's variables for itself.
 pub(crate) fn walk_entry(
     table: &mut Table,
     shifts: &mut Memo,

@@ -1,9 +1,9 @@
-//! What later versions of containers keep of the first: code and proofs that the first accepts.
+//! Theorems that code and proofs of a version 1 container are valid in later versions.
 //!
-//! The layer that makes a container of a later version from one of the first uses that the second
-//! profile decodes each word of the first alike, so the same bytes are the same code; that what
-//! checks over a signature of word arithmetic checks over each longer one; and that it weighs the
-//! same by the parameters of both.
+//! The crate that upgrades a container of version 1 uses that profile 2 decodes each instruction
+//! word of profile 1 to the instruction that profile 1 gives, so equal bytes are equal code. It
+//! also uses that whatever checks over a signature of word arithmetic checks over each longer one,
+//! with an equal weight by the parameters of both.
 #![tactic(auto)]
 
 mod theorems;

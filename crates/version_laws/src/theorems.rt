@@ -1,4 +1,4 @@
-//! What holds of profiles and signatures, with nothing to run.
+//! Theorems about profiles and signatures; their functions run nothing.
 
 ghost use Rattle.std.specs.Prelude.{◌≡◌, ◌≤◌, ℕ, List, Ok};
 ghost use Rattle.word_ops.specs.declared.Profile.TheVariants.{One, Two};
@@ -12,8 +12,9 @@ ghost use Rattle.lf_signature.specs.Typing.{Checks};
 ghost use Rattle.lf_signature.specs.Constants.{size_of, op_count_of, places_of, declared};
 ghost use Rattle.lf_signature.specs.declared.WordSignature.{WordSignature};
 
-/// What a word encodes in the first profile it encodes in the second, and reads as there; so the
-/// bytes of code in the first profile are those of the same code in the second.
+/// States that an instruction word that encodes an instruction in profile 1 encodes it in profile
+/// 2, and is decoded to it there; so bytes of code in profile 1 are bytes of equal code in profile
+/// 2.
 pub fn profile_laws()
     ensures words { (w : ℕ) (i : Insn) → Encodes One w i → Encodes Two w i }
     ensures reads { (w : ℕ) (i : Insn) → decoded One w ≡ Ok i → decoded Two w ≡ Ok i }
@@ -21,8 +22,9 @@ pub fn profile_laws()
         EncodesCode One bytes code → EncodesCode Two bytes code }
 {}
 
-/// What checks over a signature of word arithmetic checks over each that has no fewer constants and
-/// operators; and its weight by the parameters of the longer one is that by its own.
+/// States that whatever checks over a signature of word arithmetic checks over each signature with
+/// no fewer constants and operators. Its weight by the parameters of the longer signature equals
+/// its weight by those of the shorter one.
 pub fn longer_laws()
     ensures checks { (s u : WordSignature) (ctx : List Tree) (m a : Tree) →
         size_of s ≤ size_of u → op_count_of s ≤ op_count_of u →
