@@ -285,7 +285,7 @@ else:  # the last two: subq r6,1,r6; bne r6
     beside(rates, [("qemu-alpha -singlestep, counting the rounds in r6", emulated(["-singlestep"], code, bytes(64), (1, 3), STEPS)),
                    ("qemu-alpha, the same", emulated([], code, bytes(64), (1, 13), STEPS))])
 if "six" in native:
-    beside(rates, [("libpcap's bpf_filter, six of its instructions", native["six"][1] / native["six"][0] / 1e6)])
+    beside(rates, [("libpcap's bpf_code, six of its instructions", native["six"][1] / native["six"][0] / 1e6)])
 
 if emulator is not None:
     bytes_of = read(proved["checksum"])

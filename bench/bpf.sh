@@ -4,7 +4,7 @@
 # First `bpf`, and `check` of what it writes, on programs of forty instructions: processor time, median of
 # five, peak memory, bytes. Then three expressions of tcpdump beside the same filter of examples/: steps a
 # packet, and packets a second of `run` (processor time without start-up and gate, median of five), of
-# libpcap's bpf_filter on the same program (bench/native.c, where there is a C compiler and libpcap), and of
+# libpcap's bpf_code on the same program (bench/native.c, where there is a C compiler and libpcap), and of
 # `run` of the filter by hand. Last what other blocks would take, by the steps that the same ways through the
 # programs would have: with one load in place of two, a byte taken out by two words, a constant by as few
 # words as it needs, and no branch to the next block.
@@ -190,7 +190,7 @@ for expression, example, text in EXPRESSIONS:
         name, pcap_seconds, pcap_taken = subprocess.run([native, many_file, "20", work + "/" + example + ".bpf"],
                                                         stdout=subprocess.PIPE, check=True).stdout.decode().split()
         expect("packets that libpcap takes", int(pcap_taken), taken)
-        print("  libpcap's bpf_filter on the program: %.0f k packets/s, %.2f times as fast as run"
+        print("  libpcap's bpf_code on the program: %.0f k packets/s, %.2f times as fast as run"
               % (speed(float(pcap_seconds)), seconds / float(pcap_seconds)), flush=True)
 if native is None:
     print("  libpcap: it isn't installed, or there is no C compiler")

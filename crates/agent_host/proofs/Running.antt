@@ -20,10 +20,10 @@ use Rattle.host_steps.specs.declared.ended.Ended.{Ended}
 use Rattle.host_steps.specs.declared.ended.Ended.TheVariants as ended
 use Rattle.host_steps.specs.Stepping.{arena_state, EndsUnblocked}
 use Rattle.host_steps.specs.RunEnds.{outcome_of}
-use Rattle.part_runs.specs.Parts.{rights_of, PartFits}
-use Rattle.part_runs.specs.Parts.{IsPartRun, IsPartRunUnder, ReturnedInBound}
-use Rattle.part_runs.proofs.Counted.{returned-in-bound}
-use Rattle.part_runs.proofs.Fitting.{start-part-fits, part-unblocked, part-run}
+use Rattle.host_steps.specs.Parts.{rights_of, PartFits}
+use Rattle.host_steps.specs.Parts.{IsPartRun, IsPartRunUnder, ReturnedInBound}
+use Rattle.host_steps.proofs.Counted.{returned-in-bound}
+use Rattle.host_steps.proofs.Fitting.{start-part-fits, part-unblocked, part-run}
 use Rattle.agent_host.specs.declared.phase.Phase.TheVariants as phases
 use Rattle.agent_host.specs.Agents.{HostedView, annotated_code, part_of, RightsFitAgent}
 use Rattle.agent_host.specs.Agents.{SomeRightsFit, agent_at}

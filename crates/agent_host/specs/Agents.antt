@@ -10,7 +10,7 @@ use Rattle.term_table.specs.Table.{id_trees}
 use Rattle.vcgen.specs.Encoded.{annotated}
 use Rattle.pcc_gate.specs.First.{formulas}
 use Rattle.pcc_gate.specs.Views.{AcceptedView}
-use Rattle.part_runs.specs.Parts.{PartView, PartFits}
+use Rattle.host_steps.specs.Parts.{PartView, PartFits}
 use Rattle.agent_host.specs.declared.phase.Phase.{Phase}
 use Rattle.agent_host.specs.declared.phase.Phase.TheVariants as phases
 

@@ -6,7 +6,7 @@ use Rattle.reference_machine.specs.Starts.{StartView}
 use Rattle.packet_store.specs.PolicyStarts.{start_from}
 use Rattle.packet_store.specs.StartMeets.{StartMeetsIn}
 use Rattle.vcgen.specs.Safety.{all_steps}
-use Rattle.part_runs.specs.Parts.{rights_of}
+use Rattle.host_steps.specs.Parts.{rights_of}
 use Rattle.agent_host.specs.declared.phase.Phase.TheVariants as phases
 use Rattle.agent_host.specs.Agents.{HostedView, base_of, SomeRightsFit, RightsFitAgent, agent_at}
 

@@ -5,7 +5,7 @@ use Rattle.alpha_cfg.specs.declared.outcome.Outcome.TheVariants as outcomes
 use Rattle.word_ops.specs.Rights.{Rights}
 use Rattle.host_steps.specs.declared.ended.Ended.{Ended}
 use Rattle.host_steps.specs.declared.ended.Ended.TheVariants as ended
-use Rattle.part_runs.specs.Parts.{IsPartRunUnder, ReturnedInBound}
+use Rattle.host_steps.specs.Parts.{IsPartRunUnder, ReturnedInBound}
 use Rattle.agent_host.specs.declared.phase.Phase.{Phase}
 use Rattle.agent_host.specs.declared.phase.Phase.TheVariants as phases
 use Rattle.agent_host.specs.declared.turned.Turned.{Turned}

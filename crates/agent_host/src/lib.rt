@@ -6,10 +6,10 @@
 //! all rights that fit, `turn` is the run of the machine that tests each access; if the agent has a
 //! step bound, a turn with at least that budget ends with a return. Both leave every other agent
 //! unchanged: their clauses say that the list of agents is the old one with one member replaced.
-//! What any order of turns results in is said in turn_laws over the machine's definition, so no
+//! What any order of turns results in is said in alpha_turns over the machine's definition, so no
 //! proof here speaks of two agents. `specs/Agents` defines what a host holds of an agent,
 //! `specs/Hosts` loading, `specs/Turns` turns; steps are those of host_steps, and runs in a part
-//! those of part_runs.
+//! those of host_steps.
 //!
 //! Source: Necula and Lee, Safe Kernel Extensions Without Run-Time Checking, OSDI 1996; turns and
 //! parts are this project's own.

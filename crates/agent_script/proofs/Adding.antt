@@ -9,7 +9,7 @@ use Rattle.std.proofs.lemmas.Bool.{and_parts, lt-ltb, le-ltb, ltb-true}
 use Rattle.std.proofs.lemmas.Bool.{ltb-false, le-leb, lt-leb, leb-true, leb-false}
 use Rattle.std.proofs.lemmas.List.{length-map, length_push, map_push, nil_from_length}
 use Rattle.std.proofs.lemmas.List.Elements.{All-nil, All-push, All-same}
-use Rattle.turn_laws.specs.declared.turns.Turn.{Turn}
+use Rattle.alpha_turns.specs.declared.turns.Turn.{Turn}
 use Rattle.agent_script.specs.declared.script.TheConstants.{MAX_LOADS, MAX_TURN}
 use Rattle.agent_script.specs.declared.script.Load.{Load}
 use Rattle.agent_script.specs.declared.fault.ScriptFlaw.{ScriptFlaw}

@@ -8,7 +8,7 @@ use Rattle.std.proofs.lemmas.Bool.{ltb-true, ltb-false, leb-true, leb-false}
 use Rattle.std.proofs.lemmas.List.{append_assoc, append-nil, map_push, length_push, length-append}
 use Rattle.std.proofs.lemmas.List.{nil_from_length}
 use Rattle.std.proofs.lemmas.List.Elements.{All-nil, All-push, All-same, All-head, All-tail}
-use Rattle.turn_laws.specs.declared.turns.Turn.{Turn}
+use Rattle.alpha_turns.specs.declared.turns.Turn.{Turn}
 use Rattle.agent_script.specs.declared.script.TheConstants.{MAX_LOADS}
 use Rattle.agent_script.specs.declared.fault.ScriptFlaw.{ScriptFlaw}
 use Rattle.agent_script.specs.declared.fault.ScriptFlaw.TheVariants as flaws

@@ -2,7 +2,7 @@
 -- fails.
 use Rattle.std.specs.Prelude.{◌≡◌, ◌≤◌, ◌<◌, ℕ, suc, nat_le, nat_lt, if◌then◌else◌, List, [], ◌∷◌}
 use Rattle.std.specs.Prelude.{◌++◌, length, map, All, Result, Ok, Err, string_bytes}
-use Rattle.turn_laws.specs.declared.turns.Turn.{Turn}
+use Rattle.alpha_turns.specs.declared.turns.Turn.{Turn}
 use Rattle.agent_script.specs.declared.script.TheConstants.{MAX_LOADS, MAX_TURN}
 use Rattle.agent_script.specs.declared.script.Load.{Load}
 use Rattle.agent_script.specs.declared.script.Script.{Script}

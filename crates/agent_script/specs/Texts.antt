@@ -5,7 +5,7 @@ use Rattle.std.specs.Prelude.{length, map, All, codes, Result, Ok, Err}
 use Rattle.std.specs.List.{AllByRecursion}
 use Rattle.std.specs.Str.{IsUtf8}
 use Rattle.std.specs.Str.Parse.{IsNumeral, digits_value}
-use Rattle.turn_laws.specs.declared.turns.Turn.{Turn}
+use Rattle.alpha_turns.specs.declared.turns.Turn.{Turn}
 use Rattle.agent_script.specs.declared.script.TheConstants.{MAX_LOADS, MAX_TURN}
 use Rattle.agent_script.specs.declared.statement.TheConstants.{MAX_DIGITS}
 use Rattle.agent_script.specs.declared.fault.ScriptFlaw.{ScriptFlaw}

@@ -4,7 +4,7 @@
 //! `turn A N`. `read_script` returns the script that a text holds, or its first fault: the first
 //! line that is wrong, and the first test that it fails. `specs/Lines` defines lines and words,
 //! `specs/Statements` what a line says, `specs/Scripts` what a script says, `specs/Names` the names
-//! of the kinds of faults; a turn is turn_laws'. `specs/Texts` says, without an order of reading,
+//! of the kinds of faults; a turn is alpha_turns'. `specs/Texts` says, without an order of reading,
 //! which text is a script, and which of its lines is the first that is wrong; `laws` says that
 //! `read_script` agrees with it. The format is this project's own.
 #![tactic(auto)]
@@ -16,8 +16,8 @@ mod script;
 mod statement;
 mod theorems;
 
+pub use alpha_turns::Turn;
 pub use fault::{MAX_KIND, ScriptFault, ScriptFlaw};
 pub use reader::read_script;
 pub use script::{Load, MAX_LOADS, MAX_SCRIPT, MAX_TURN, Script};
 pub use theorems::laws;
-pub use turn_laws::Turn;

@@ -11,8 +11,8 @@ use crate::fault::{ScriptFault, ScriptFlaw};
 use crate::line::split_line;
 use crate::script::{Load, MAX_LOADS, MAX_SCRIPT, Script};
 use crate::statement::{Statement, read_statement};
+use alpha_turns::Turn;
 use std::alloc::Global;
-use turn_laws::Turn;
 
 /// The script of no lines.
 fn no_lines(alloc: Global) -> Script

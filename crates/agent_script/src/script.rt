@@ -1,6 +1,6 @@
 //! What a script holds: agents to load and their turns.
 
-use turn_laws::Turn;
+use alpha_turns::Turn;
 
 /// The maximal length of a script in bytes.
 pub const MAX_SCRIPT: usize = 65_536;

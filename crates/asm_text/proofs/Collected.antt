@@ -10,13 +10,13 @@ use Rattle.asm_text.specs.declared.fault.LineFlaw.{LineFlaw}
 use Rattle.asm_text.specs.declared.fault.LineFlaw.TheVariants as L
 use Rattle.asm_text.specs.declared.limits.TheConstants.{MAX_INSNS, MAX_INVS}
 use Rattle.asm_text.specs.Insns.{SourceInsn}
-use Rattle.text_lines.specs.Lines.{lines_of}
+use Rattle.text_tokens.specs.Lines.{lines_of}
 use Rattle.asm_text.specs.Statements.{Statement, NoStatement, AnInsn, AnInv, Content}
 use Rattle.asm_text.specs.Sources.{Source, AreSpelled, insn_count, add_insn, add_label, add_inv, insns_from, labels_from, invs_from, AreDistinct, HaveInsns, IsSource, SpellsSource}
 use Rattle.asm_text.specs.SourceParsing.{Progress, is_known, take_label, take_inv, take_statement, take_line, at_line, source_end, take_lines, no_progress, parsed_source}
 use Rattle.asm_text.specs.Faults.{IsBegun}
 use Rattle.asm_text.proofs.Operands.{bind_ok, bind_of, same_Ok, if_ok}
-use Rattle.text_lines.proofs.Endings.{lines_are, are_lines}
+use Rattle.text_tokens.proofs.Endings.{lines_are, are_lines}
 use Rattle.asm_text.proofs.Said.{takes, line_takes, line_said}
 use Rattle.word_ops.specs.declared.Profile.{Profile}
 

@@ -8,12 +8,12 @@ use Rattle.term_table.specs.Steps.{◌>>=◌}
 use Rattle.asm_text.specs.declared.fault.LineFlaw.{LineFlaw}
 use Rattle.asm_text.specs.declared.fault.LineFlaw.TheVariants as L
 use Rattle.asm_text.specs.Insns.{SourceInsn}
-use Rattle.text_lines.specs.Lines.{AreLines, lines_of}
+use Rattle.text_tokens.specs.Lines.{AreLines, lines_of}
 use Rattle.asm_text.specs.Statements.{Statement, NoStatement, AnInsn, AnInv, Content}
 use Rattle.asm_text.specs.Sources.{AreSpelled, insns_from, add_insn, source_of, HaveInsns}
 use Rattle.asm_text.specs.SourceParsing.{Progress, take_line, at_line, source_end, take_lines, no_progress, parsed_source}
 use Rattle.asm_text.specs.Faults.{IsBegun, IsInv, FailsBehind, FailsAt, Lacks, loose, empty, IsSourceFault, BeginsNoSource}
-use Rattle.text_lines.proofs.Endings.{lines_are, are_lines}
+use Rattle.text_tokens.proofs.Endings.{lines_are, are_lines}
 use Rattle.asm_text.proofs.Said.{chosen, line_said}
 use Rattle.asm_text.proofs.Collected as run
 use Rattle.asm_text.proofs.Failing.{Stands, line_fails, fails_line}

@@ -21,7 +21,7 @@ use Rattle.asm_text.specs.declared.limits.TheConstants.{MAX_INSNS, MAX_INVS}
 use Rattle.asm_text.specs.declared.progress.Progress as code
 use Rattle.asm_text.specs.declared.sources.Source as lists
 use Rattle.asm_text.specs.Insns.{SourceInsn}
-use Rattle.text_lines.specs.Lines.{lines_of}
+use Rattle.text_tokens.specs.Lines.{lines_of}
 use Rattle.asm_text.specs.Statements.{AnInsn}
 use Rattle.asm_text.specs.Sources.{Source, SpellsSource}
 use Rattle.asm_text.specs.SourceParsing.{Progress, is_known, take_label, take_inv, take_statement, take_line, at_line, source_end, take_lines, no_progress, parsed_source}

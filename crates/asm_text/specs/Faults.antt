@@ -14,7 +14,7 @@ use Rattle.asm_text.specs.declared.mnemonics.Mnemonic.{Mnemonic}
 use Rattle.asm_text.specs.Marks.{source_class}
 use Rattle.asm_text.specs.Mnemonics.{mnemonic_text, has_mnemonic}
 use Rattle.asm_text.specs.Operands.{AreNoOperands}
-use Rattle.text_lines.specs.Lines.{AreLines}
+use Rattle.text_tokens.specs.Lines.{AreLines}
 use Rattle.asm_text.specs.Statements.{Statement, NoStatement, AnInsn, AnInv, Content, HasLabel, HasInv, before_comment, are_printable, SpellsLine}
 use Rattle.asm_text.specs.Sources.{Source, AreSpelled, source_of, AreDistinct, HaveInsns, SpellsSource}
 

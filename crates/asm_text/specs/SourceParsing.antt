@@ -16,7 +16,7 @@ use Rattle.asm_text.specs.declared.marks.Punct.TheVariants as M
 use Rattle.asm_text.specs.Marks.{source_class, same_mark}
 use Rattle.asm_text.specs.Labels.{is_label}
 use Rattle.asm_text.specs.InsnParsing.{parsed_insn}
-use Rattle.text_lines.specs.Lines.{lines_of}
+use Rattle.text_tokens.specs.Lines.{lines_of}
 use Rattle.asm_text.specs.Statements.{Statement, NoStatement, AnInsn, AnInv, before_comment, are_printable}
 use Rattle.asm_text.specs.Sources.{Source}
 

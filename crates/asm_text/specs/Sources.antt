@@ -6,7 +6,7 @@ use Rattle.word_ops.specs.declared.Profile.{Profile}
 use Rattle.formula_tree.specs.Formulas.{Form}
 use Rattle.asm_text.specs.declared.limits.TheConstants.{MAX_INSNS, MAX_INVS}
 use Rattle.asm_text.specs.Insns.{SourceInsn}
-use Rattle.text_lines.specs.Lines.{AreLines}
+use Rattle.text_tokens.specs.Lines.{AreLines}
 use Rattle.asm_text.specs.Statements.{Statement, NoStatement, AnInsn, AnInv, Content, SpellsLine}
 
 -- Each instruction has the number of its line, from 1; a label and an invariant have the index of the next instruction, or the count of all where none follows.

@@ -10,7 +10,7 @@
 //! - `Faults` and `Operands`: the meaning of errors;
 //! - `SourceParsing` and `InsnParsing`: the parser's tests, in their order.
 //!
-//! Lines, which other texts have too, are in text_lines. The format is this project's own; the
+//! Lines, which other texts have too, are in text_tokens. The format is this project's own; the
 //! mnemonics come from the Alpha Architecture Handbook.
 #![tactic(auto)]
 

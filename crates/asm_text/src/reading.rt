@@ -10,7 +10,7 @@ use crate::fault::LineFault;
 use crate::progress::{no_progress, source_end, take_numbered};
 use crate::sources::Source;
 use std::alloc::Global;
-use text_lines::split_line;
+use text_tokens::split_line;
 use word_ops::Profile;
 
 /// Parses the text as a source. Errors: the first wrong line, or out of memory.

@@ -7,7 +7,7 @@ ghost use Rattle.asm_text.specs.declared.fault.LineFlaw.{LineFlaw};
 ghost use Rattle.asm_text.specs.declared.marks.Punct.{Punct};
 ghost use Rattle.asm_text.specs.Insns.{SourceInsn, SpellsInsn};
 ghost use Rattle.asm_text.specs.InsnParsing.{parsed_insn};
-ghost use Rattle.text_lines.specs.Lines.{AreLines, lines_of};
+ghost use Rattle.text_tokens.specs.Lines.{AreLines, lines_of};
 ghost use Rattle.asm_text.specs.Sources.{Source, SpellsSource};
 ghost use Rattle.asm_text.specs.SourceParsing.{parsed_source};
 ghost use Rattle.asm_text.specs.Faults.{FailsAt, IsSourceFault, BeginsNoSource};

@@ -15,7 +15,7 @@ use Rattle.lf_signature.specs.Typing.{Checks}
 use Rattle.lf_signature.specs.Laws.Restricted.{checks_more}
 use Rattle.lf_lemmas.specs.Lemmas.{formulas_of, with_lemmas}
 use Rattle.lf_lemmas.specs.Laws.Lawful.{lemmas_keep}
-use Rattle.formula_terms.specs.Encoding.{form_encoding}
+use Rattle.lf_terms.specs.Encoding.{form_encoding}
 use Rattle.proof_container.specs.Contents.{Contents, one_or_none, lemma_roots, roots}
 use Rattle.proof_container.specs.Postorder.{entries}
 use Rattle.term_table.specs.Bytes.{IsBytes}
@@ -36,8 +36,8 @@ use Rattle.pcc_gate.proofs.Safe.{bound-fits}
 use Rattle.prover_class.specs.Parts.{conjoined, condition_proof, first_not_easy}
 use Rattle.bounds_prover.specs.declared.fault.ProveFault.{ProveFault}
 use Rattle.bounds_prover.specs.declared.fault.ProveFault.TheVariants.{Refused, NotEasy}
-use Rattle.condition_prover.specs.Conditions.{condition_parts}
-use Rattle.condition_prover.proofs.WholeProof.{IsSoundClass, condition-parts, parts-first, parts-second, parts-third, proof-checks}
+use Rattle.prover_conditions.specs.Conditions.{condition_parts}
+use Rattle.prover_conditions.proofs.WholeProof.{IsSoundClass, condition-parts, parts-first, parts-second, parts-third, proof-checks}
 use Rattle.bounds_prover.specs.Proving.{with_proof, excess, encoded_unless, with_parts_proof, proved_contents, proved_code, proved_read, made_unless, proved_container}
 use Rattle.bounds_prover.proofs.Measures.{IsSmallEnough, small-enough}
 use Rattle.bounds_prover.proofs.SmallTerms.{checks-small, checks-entry}

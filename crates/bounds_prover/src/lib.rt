@@ -1,7 +1,7 @@
-//! The command `prove` as a library: a container with a proof that its checker accepts.
+//! The command `prove` as a library: puts a proof of its verification condition into a container.
 //!
 //! The layer above uses that `prove` returns the container in the bytes with a proof of its
-//! verification condition in place of its own, if the prover finds one (`condition_prover`,
+//! verification condition in place of its own, if the prover finds one (`prover_conditions`,
 //! `prover_class`). Else it returns the first reason why not (`specs/Proving`). The container
 //! checker accepts the result (`specs/ProvedLaws`). Source: Necula, Proof-Carrying Code, POPL 1997
 //! (the rules); the search is this project's own.

@@ -15,18 +15,18 @@ ghost use Rattle.proof_container.specs.Versions.{signature_of};
 ghost use Rattle.pcc_gate.specs.Passing.{Passes};
 ghost use Rattle.pcc_gate.specs.Accepted.{IsAccepted};
 ghost use Rattle.pcc_gate.specs.Answers.{IsHeld, HasGoodLemmas};
-ghost use Rattle.condition_prover.specs.Conditions.{condition_parts};
+ghost use Rattle.prover_conditions.specs.Conditions.{condition_parts};
 ghost use Rattle.bounds_prover.specs.Proving.{excess, encoded_unless};
 ghost use Rattle.bounds_prover.specs.Proving.{proved_contents, IsMadeAnswer, IsProveAnswer};
 
 use crate::fault::{Measure, ProveFault};
 use crate::theorems::prove_laws;
-use condition_prover::{ConditionProof, prove_condition};
 use hereditary_subst::Exhausted;
 use pcc_gate::{GateFault, MAX_WEIGHT, Passed, front_with_lemmas, lemmas_weight};
 use policy_set::Policy;
 use proof_container::{MAX_BYTES, MAX_ENTRIES, View, extent, signature_of, write};
 use prover_class::class_laws;
+use prover_conditions::{ConditionProof, prove_condition};
 use std::alloc::{AllocError, Global};
 use term_table::Id;
 use vcgen::MAX_HEIGHT;
@@ -157,7 +157,7 @@ fn made(alloc: Global, policy: &Policy, bytes: &[u8]) -> Result<Vec<u8>, ProveFa
 /// (`vcgen::MAX_HEIGHT`), the container's entries and bytes (`proof_container::MAX_ENTRIES`,
 /// `MAX_BYTES`). `Memory` and `Results` say nothing about `bytes`: the call ran out of memory, or
 /// the results that the search caches and the terms that it builds were more than
-/// `condition_prover::MOST_SEARCHED`.
+/// `prover_conditions::MOST_SEARCHED`.
 pub fn prove(alloc: Global, policy: &Policy, bytes: &[u8]) -> Result<Vec<u8>, ProveFault>
     ensures exact { IsProveAnswer policy.now bytes.now result }
     ensures accepted { IfOk result (λ out. IsAccepted policy.now out.items) }

@@ -6,3 +6,6 @@ pub mod Places
 pub mod Simulation
 pub mod Starting
 pub mod Pushing
+pub mod FilterStarts
+pub mod Shapes
+pub mod Unfolded

@@ -1,3 +1,10 @@
 pub mod Terms
 pub mod Placed
 pub mod Made
+pub mod Known
+pub mod Rising
+pub mod Sizes
+pub mod Passing
+pub mod Proved
+pub mod Accepting
+pub mod Coded

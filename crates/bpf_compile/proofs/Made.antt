@@ -25,9 +25,9 @@ use Rattle.bounds_prover.specs.declared.fault.ProveFault.{ProveFault}
 use Rattle.bounds_prover.specs.Proving.{with_proof, proved_container, IsProveAnswer}
 use Rattle.bpf_words.specs.declared.insn.Bpf.{Bpf}
 use Rattle.bpf_code.specs.Blocks.{bpf_code}
-use Rattle.bpf_vc.specs.Condition.{HasClassProof, bpf_parts}
-use Rattle.bpf_container.specs.Compiled.{IsCompiled}
-use Rattle.bpf_container.specs.Contents.{AreCodeBytes, bpf_contents}
+use Rattle.bpf_condition.specs.Condition.{HasClassProof, bpf_parts}
+use Rattle.bpf_compile.specs.Compiled.{IsCompiled}
+use Rattle.bpf_compile.specs.Contents.{AreCodeBytes, bpf_contents}
 use Rattle.bpf_compile.specs.Compilation.{bare_contents, compiled_container, IsCompilation}
 use Rattle.bpf_compile.specs.Inside.Ids.{AreInvIds}
 use Rattle.word_ops.specs.declared.Profile.TheVariants.{One}

@@ -10,7 +10,7 @@ use Rattle.bpf_words.specs.declared.insn.BpfOp.{BpfOp}
 use Rattle.bpf_words.specs.Programs.{bpf_op}
 use Rattle.bpf_words.proofs.Soundness.{drop-at}
 use Rattle.bpf_code.specs.Blocks.{end_place}
-use Rattle.bpf_vc.specs.Invariants.{packet_invariant, end_invariant, invariants_of, invariants_from}
+use Rattle.bpf_condition.specs.Invariants.{packet_invariant, end_invariant, invariants_of, invariants_from}
 use Rattle.bpf_compile.specs.Inside.Ids.{terms_of, AreFirstIds}
 
 known-both : (t : TableView) (ids more : List (ℕ × ℕ))

@@ -6,7 +6,7 @@ use Rattle.policy_set.specs.Policies.{filter_post}
 use Rattle.lf_encode.specs.declared.contexts.Sort.{Sort}
 use Rattle.lf_encode.specs.Contexts.{machine_context, IsFormIn}
 use Rattle.lf_encode.proofs.MachineContext.{in-machine}
-use Rattle.bpf_vc.specs.Invariants.{packet_invariant}
+use Rattle.bpf_condition.specs.Invariants.{packet_invariant}
 
 over-machine : (F : Form) → IsOver 32 F [] → IsFormIn machine_context 32 F
 over-machine F h = in-machine F h

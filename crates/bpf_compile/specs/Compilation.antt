@@ -11,8 +11,8 @@ use Rattle.bounds_prover.specs.declared.fault.ProveFault.{ProveFault}
 use Rattle.bounds_prover.specs.Proving.{proved_container, with_proof}
 use Rattle.bpf_words.specs.declared.insn.Bpf.{Bpf}
 use Rattle.bpf_code.specs.Blocks.{bpf_code}
-use Rattle.bpf_vc.specs.Invariants.{bpf_invariants}
-use Rattle.bpf_vc.specs.Condition.{bpf_parts}
+use Rattle.bpf_condition.specs.Invariants.{bpf_invariants}
+use Rattle.bpf_condition.specs.Condition.{bpf_parts}
 
 -- what the program's container holds before it has a proof: the words that the assembler writes for its code, and its invariants
 abbrev pub bare_contents : List Bpf → Contents

@@ -1,2 +1,4 @@
 pub mod Compilation
 pub mod Inside
+pub mod Contents
+pub mod Compiled

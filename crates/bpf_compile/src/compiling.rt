@@ -5,7 +5,7 @@ ghost use Rattle.proof_container.specs.Encoding.{encoding_of};
 ghost use Rattle.policy_set.specs.declared.kind.PolicyKind.TheVariants.{Filter};
 ghost use Rattle.policy_set.specs.Views.{built_in};
 ghost use Rattle.bpf_words.specs.Programs.{IsProgram};
-ghost use Rattle.bpf_container.specs.Compiled.{IsCompiled};
+ghost use Rattle.bpf_compile.specs.Compiled.{IsCompiled};
 ghost use Rattle.bpf_compile.specs.Compilation.{bare_contents, compiled_container, IsCompilation};
 
 use crate::invariants::encode_invs;
@@ -25,9 +25,9 @@ fn bare(alloc: Global, policy: &Policy, program: &[Bpf]) -> Result<Vec<u8>, Allo
     requires program { IsProgram program.now }
     ensures { IfOk result (λ v. v.items ≡ encoding_of (bare_contents program.now)) }
 {
-    bpf_filter::code_laws();
-    bpf_container::laws();
-    written_code::laws();
+    bpf_code::code_laws();
+    crate::laws();
+    crate::written_laws();
     let insns = bpf_code(alloc, program)?;
     let code = bytes_of(alloc, &insns)?;
     let mut table = Table::new(alloc, Places::sigma1());
@@ -61,10 +61,10 @@ fn with_proof(
     ensures compiled { IfOk result (λ out. IsCompiled program.now out.items) }
 {
     let _ = program; // only the clauses speak of it
-    bpf_vc::laws();
-    bpf_filter::code_laws();
-    bpf_container::laws();
-    written_code::laws();
+    bpf_condition::laws();
+    bpf_code::code_laws();
+    crate::laws();
+    crate::written_laws();
     match prove(alloc, policy, bytes) {
         Ok(out) => Ok(out),
         Err(ProveFault::Memory) => Err(Exhausted::Memory),

@@ -15,7 +15,7 @@ ghost use Rattle.bpf_words.specs.Programs.{bpf_op, IsProgram};
 ghost use Rattle.bpf_words.specs.declared.insn.TheConstants.{MAX_PROGRAM};
 ghost use Rattle.bpf_code.specs.declared.blocks.TheConstants.{BLOCK};
 ghost use Rattle.bpf_code.specs.Blocks.{end_place, straight_code};
-ghost use Rattle.bpf_vc.specs.Invariants.{packet_invariant, end_invariant};
+ghost use Rattle.bpf_condition.specs.Invariants.{packet_invariant, end_invariant};
 ghost use Rattle.bpf_compile.specs.Inside.Ids.{AreInvIds};
 
 use bpf_code::BLOCK;

@@ -9,7 +9,7 @@ use Rattle.std.proofs.Common.{◌≡◌, ℕ, zero, suc, ◌^◌, Bool, true, fa
 use Rattle.term_table.specs.Tree.{Tree, Var, Con, App, Lam, Fam, Pi, Const, Num, Lit, Calc, Fact, Deny, Lemma, at}
 use Rattle.term_table.specs.Subst.{Simple, Base, Arrow, erase}
 use Rattle.formula_tree.specs.Formulas.{Exp, EVar, ELit, EOp, ESel, MemExp, MVar, MUpd, Form, FTrue, FFalse, FRel, FRd, FWr, FAnd, FOr, FImp, FAll, FAllm}
-use Rattle.formula_terms.specs.Encoding.{exp_encoding, mem_encoding, form_encoding}
+use Rattle.lf_terms.specs.Encoding.{exp_encoding, mem_encoding, form_encoding}
 use Rattle.formula_tree.specs.Scope.{VarSort, sort_at, OfWord, OfMem, OfProof, IsOverExp, IsOverMem, IsOver}
 use Rattle.lf_signature.specs.Constants.{is_word}
 use Rattle.lf_signature.specs.Simply.{SChecks, lam_schecks, atom_schecks, SSynth, var_ssynth, con_ssynth, app_ssynth}
@@ -24,7 +24,7 @@ use Rattle.lf_signature.specs.Laws.Within.{made_number, Found, made, ruled, decl
 use Rattle.lf_signature.specs.Simply.{simply, erased}
 use Rattle.lf_signature.specs.Laws.Booleans.{both, every, every-at, cond_is}
 use Rattle.lf_signature.specs.Laws.Simple.{checks_simply}
-use Rattle.formula_terms.specs.Encoding.{var_types}
+use Rattle.lf_terms.specs.Encoding.{var_types}
 use Rattle.formula_tree.specs.Operators.{UsesExp, UsesMem, Uses}
 use Rattle.lf_signature.specs.Known.{HasOp}
 use Rattle.lf_signature.specs.Typing.{Checks}

@@ -9,7 +9,7 @@ use Rattle.formula_tree.specs.Substitution.{subst_exp, subst_mem, subst_form}
 use Rattle.formula_tree.specs.Variables.{Part, PExp, PMem, subst_var_exp, subst_var_mem, subst_var}
 use Rattle.formula_tree.specs.Scope.{VarSort, sort_at, IsOverPart, part_sort}
 use Rattle.formula_tree.specs.Sizes.{binders}
-use Rattle.formula_terms.specs.Encoding.{exp_encoding, mem_encoding, form_encoding, part_encoding, part_family}
+use Rattle.lf_terms.specs.Encoding.{exp_encoding, mem_encoding, form_encoding, part_encoding, part_family}
 use Rattle.lf_encode.specs.declared.contexts.Sort as sort
 use Rattle.lf_encode.specs.Contexts.{sorts_of, has_left, bound_sorts, without_var, registers_in, names_in}
 use Rattle.lf_encode.specs.Contexts.{IsExpIn, IsMemIn, IsFormIn, IsPartIn, encoding_in, exp_encoding_in, mem_encoding_in, part_encoding_in}

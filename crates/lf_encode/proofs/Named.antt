@@ -12,12 +12,12 @@ use Rattle.formula_tree.specs.Scope.{VarSort, OfWord, OfMem, sort_at, IsWithinEx
 use Rattle.formula_tree.specs.Sizes.{binders, form_height}
 use Rattle.lf_encode.specs.declared.contexts.Sort as sort
 use Rattle.lf_encode.specs.declared.contexts.Sort.TheVariants as S
-use Rattle.formula_terms.specs.Encoding.{exp_encoding, mem_encoding, form_encoding}
+use Rattle.lf_terms.specs.Encoding.{exp_encoding, mem_encoding, form_encoding}
 use Rattle.lf_encode.specs.Contexts.{var_sort, put_nearest, sorts_of, sort_types, has_words, has_machine, has_left, machine_count, bound_sorts, registers_in, IsExpIn, IsMemIn, IsFormIn, encoding_in, exp_encoding_in, mem_encoding_in, EncodesForm, EncodesExp, EncodesMem}
 use Rattle.lf_encode.specs.Naming.{words, named_exp, named_mem, named_form, unnamed_exp, unnamed_mem, unnamed_form}
 use Rattle.lf_encode.proofs.Naming.{near-at, Front, Alone, Machine, Counted, front_count, reg_count, has_steps, far}
 use Rattle.lf_encode.proofs.Naming.{named_exp-is, named_mem-is, named_form-is, named_exp-over, named_mem-over, named_form-over, unnamed_exp-over, unnamed_mem-over, unnamed_form-over, back_exp, back_mem, back_form}
-use Rattle.formula_terms.proofs.Encoded.{exp_encoding-injective, mem_encoding-injective, form_encoding-injective}
+use Rattle.lf_terms.proofs.Encoded.{exp_encoding-injective, mem_encoding-injective, form_encoding-injective}
 use Rattle.lf_encode.proofs.Typed.{exp_checks, mem_checks, form_checks}
 use Rattle.lf_encode.proofs.Adequate.{checked_form, checked_mem, checked_exp}
 

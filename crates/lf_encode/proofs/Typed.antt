@@ -6,7 +6,7 @@ use Rattle.std.proofs.Common.{◌≡◌, ℕ, zero, suc, ◌+◌, ◌^◌, ◌<�
 use Rattle.term_table.specs.Tree.{Tree, Fam, Pi, Const, Num, at, shift, raise, fits}
 use Rattle.term_table.specs.Subst.{in_fam, in_pi}
 use Rattle.formula_tree.specs.Formulas.{Exp, EReg, ELeft, EVar, ELit, EOp, ESel, MemExp, MMem, MVar, MUpd, Form, FTrue, FFalse, FRel, FRd, FWr, FAnd, FOr, FImp, FAll, FAllm, shift_exp, shift_mem}
-use Rattle.formula_terms.specs.Encoding.{exp_encoding, mem_encoding, form_encoding}
+use Rattle.lf_terms.specs.Encoding.{exp_encoding, mem_encoding, form_encoding}
 use Rattle.formula_tree.specs.Scope.{VarSort, sort_at, OfWord, OfMem, IsOverExp, IsOverMem, IsOver}
 use Rattle.lf_signature.specs.Typing.{Checks, lam_checks, atom_checks, var_synth, con_synth, app_synth}
 use Rattle.word_ops.specs.declared.Rel.{Rel}
@@ -18,9 +18,9 @@ use Rattle.lf_signature.specs.Known.{IsKnownSignature}
 use Rattle.formula_tree.specs.Operators.{UsesExp, UsesMem, Uses}
 use Rattle.lf_signature.specs.Known.{HasOp}
 use Rattle.lf_signature.specs.Laws.Numbered.{declared-rel}
-use Rattle.formula_terms.specs.Encoding.{var_types}
+use Rattle.lf_terms.specs.Encoding.{var_types}
 use Rattle.formula_tree.specs.Sizes.{binders}
-use Rattle.formula_terms.proofs.Encoded.{at-word, at-mem, shift-mem_encoding}
+use Rattle.lf_terms.proofs.Encoded.{at-word, at-mem, shift-mem_encoding}
 
 at_within : (G : List VarSort) (n : ℕ) (s : VarSort) → sort_at G n ≡ Some s → n < length G
 at_within [] n s q = cc

@@ -4,7 +4,7 @@ pub use Rattle.formula_tree.specs.Substitution
 pub use Rattle.formula_tree.specs.Views
 pub use Rattle.term_table.specs.Table
 pub use Rattle.lf_signature.specs.Terms
-pub use Rattle.formula_terms.specs.Encoding
+pub use Rattle.lf_terms.specs.Encoding
 pub mod Contexts
 pub mod PutTree
 pub mod Kept

@@ -16,8 +16,8 @@ ghost use Rattle.formula_tree.specs.Substitution.{Substitution, shift_substituti
 ghost use Rattle.formula_tree.specs.Substitution.{subst_exp, subst_mem, subst_form};
 ghost use Rattle.formula_tree.specs.Variables.{Part, subst_var_exp, subst_var_mem, subst_var};
 ghost use Rattle.lf_encode.specs.declared.contexts.Sort.{Sort};
-ghost use Rattle.formula_terms.specs.Encoding.{exp_encoding, mem_encoding, form_encoding};
-ghost use Rattle.formula_terms.specs.Encoding.{part_encoding, part_family};
+ghost use Rattle.lf_terms.specs.Encoding.{exp_encoding, mem_encoding, form_encoding};
+ghost use Rattle.lf_terms.specs.Encoding.{part_encoding, part_family};
 ghost use Rattle.lf_encode.specs.Contexts.{machine_count, sorts_of, bound_sorts, without_var};
 ghost use Rattle.lf_encode.specs.Contexts.{IsExpIn, IsMemIn, IsFormIn, IsPartIn};
 ghost use Rattle.lf_encode.specs.Contexts.{sort_types, names_in, part_encoding_in};

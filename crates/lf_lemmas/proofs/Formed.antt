@@ -12,7 +12,7 @@ use Rattle.lf_signature.specs.Laws.Applied.{pf_type}
 use Rattle.lf_signature.specs.Laws.Booleans.{both}
 use Rattle.lf_signature.specs.Laws.Restricted.{type_over_all}
 use Rattle.lf_signature.specs.Laws.Simple.{erase-shift, erase-hsub_type, checks_simply, type_simply}
-use Rattle.typed_subst.proofs.SimpleSubst.{SplitsTypes-first, WidensTypes, WidensTypes-one, stype-shift}
+use Rattle.lf_lemmas.proofs.SimpleSubst.{SplitsTypes-first, WidensTypes, WidensTypes-one, stype-shift}
 use Rattle.lf_lemmas.specs.Orderly.{is_orderly, AreOrderly}
 use Rattle.lf_lemmas.proofs.TypeSubst.{stype_sub}
 

@@ -14,7 +14,7 @@ use Rattle.lf_signature.specs.Laws.Booleans.{both, and_of}
 use Rattle.lf_signature.specs.Laws.Closed.{checks_over}
 use Rattle.lf_signature.specs.Laws.Simple.{checks_simply}
 use Rattle.lf_signature.specs.Laws.Decided.{synth_unique}
-use Rattle.typed_subst.proofs.SimpleSubst.{SplitsTypes-first}
+use Rattle.lf_lemmas.proofs.SimpleSubst.{SplitsTypes-first}
 use Rattle.lf_lemmas.specs.Lemmas.{formulas_of, proofs_of, with_lemmas}
 use Rattle.lf_lemmas.specs.WrittenOut.{inlined, cites_below}
 use Rattle.lf_lemmas.specs.Orderly.{is_proof_free, ends_proof_free, is_orderly, AdmitsLemmas}

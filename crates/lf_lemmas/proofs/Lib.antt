@@ -10,3 +10,6 @@ pub mod WrittenOut
 pub mod Prefixes
 pub mod WordLemmas
 pub mod LemmaRows
+pub mod SimpleSubst
+mod SimpleTotal
+mod Substitution

@@ -6,7 +6,7 @@ use Rattle.term_table.proofs.Options.{some_injective}
 use Rattle.lf_signature.specs.Typing.{family_kind}
 use Rattle.lf_signature.specs.Simply.{SChecks, lam_schecks, atom_schecks, SSynth, var_ssynth, con_ssynth, app_ssynth, domains, SFam, fam_sfam, tapp_sfam, SType, fam_stype, pi_stype}
 use Rattle.lf_signature.specs.Laws.Booleans.{both, and_of}
-use Rattle.typed_subst.proofs.SimpleSubst.{type_or, SplitsTypes, SplitsTypes-under}
+use Rattle.lf_lemmas.proofs.SimpleSubst.{type_or, SplitsTypes, SplitsTypes-under}
 use Rattle.lf_lemmas.specs.Orderly.{is_proof_free, ends_proof_free, is_orderly}
 use Rattle.lf_lemmas.specs.WrittenOut.{cites_below}
 use Rattle.lf_lemmas.proofs.Absent.{is_other, is_absent}

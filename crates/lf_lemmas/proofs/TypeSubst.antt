@@ -5,7 +5,7 @@ use Rattle.term_table.specs.Subst.{Simple, erase, HSubType, in_fam, in_tapp, in_
 use Rattle.term_table.proofs.Agree.{hsub_is}
 use Rattle.lf_signature.specs.Simply.{SChecks, SFam, fam_sfam, tapp_sfam, SType, fam_stype, pi_stype}
 use Rattle.lf_signature.specs.Laws.Simple.{erase-hsub_type}
-use Rattle.typed_subst.proofs.SimpleSubst.{SplitsTypes, SplitsTypes-under, WidensTypes-one, schecks-shift, hsub_simply}
+use Rattle.lf_lemmas.proofs.SimpleSubst.{SplitsTypes, SplitsTypes-under, WidensTypes-one, schecks-shift, hsub_simply}
 
 module _ (sig : Const → Option Simple) where
   -- families applied

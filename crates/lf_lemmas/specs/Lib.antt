@@ -4,3 +4,4 @@ pub mod Checking
 pub mod Orderly
 pub mod Tables
 pub mod Laws
+pub mod Overflow

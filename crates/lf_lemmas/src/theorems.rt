@@ -1,7 +1,8 @@
 //! Theorems about lemmas; their functions run nothing.
 
-ghost use Rattle.std.specs.Prelude.{◌≡◌, ◌↔◌, ℕ, true, Option, List, [], length, take};
-ghost use Rattle.term_table.specs.Tree.{Tree, Const, fits};
+ghost use Rattle.std.specs.Prelude.{◌≡◌, ◌↔◌, ℕ, true, Option, List, [], length, take, ◌∷◌, ◌++◌};
+ghost use Rattle.std.specs.Prelude.{◌⊎◌};
+ghost use Rattle.term_table.specs.Tree.{Tree, Const, fits, shift};
 ghost use Rattle.term_table.specs.Table.{IsSmall};
 ghost use Rattle.lf_signature.specs.Terms.{form};
 ghost use Rattle.lf_signature.specs.Typing.{Checks};
@@ -12,6 +13,9 @@ ghost use Rattle.lf_lemmas.specs.WrittenOut.{cites_below, inlined, written_out};
 ghost use Rattle.lf_lemmas.specs.Checking.{LemmasCheck, AllProve, CiteBackwards, CiteNone, AllFit};
 ghost use Rattle.lf_lemmas.specs.Checking.{ChecksWithLemmas, ChecksWrittenOut};
 ghost use Rattle.lf_lemmas.specs.Orderly.{AdmitsLemmas};
+ghost use Rattle.term_table.specs.Subst.{Simple, erase, HSub};
+ghost use Rattle.lf_signature.specs.Simply.{simply, erased};
+ghost use Rattle.lf_lemmas.specs.Overflow.{Overflows, HasOneResult};
 
 /// States that lemmas add no proving power. Over a signature that admits lemmas, take lemmas whose
 /// formulas are formulas, and a proof of the formula `G`. Their proofs check with the lemmas
@@ -44,4 +48,20 @@ pub fn laws()
     ensures at_once { (sig : Const → Option Tree) (lemmas : List (Tree × Tree)) →
         LemmasCheck sig lemmas
         ↔ (AllProve (with_lemmas sig (formulas_of lemmas)) lemmas × CiteBackwards lemmas) }
+{}
+
+/// States that substitution on well-typed input has exactly one result. Let `m` check against `a`
+/// in a context, and `n` against `b` in that context extended by a variable of type `a` and then by
+/// the types `inner`. Then `m` put for that variable in `n` has exactly one result, which checks
+/// against the simple type of `b`, unless a variable would reach 2 ^ 32 (`typed`). The theorem
+/// doesn't say that the result checks against the substituted type. If a variable would reach 2 ^
+/// 32, there is no result (`overflow`), so "unless" is exact.
+pub fn typed_laws()
+    ensures typed { (sig : Const → Option Tree) (ctx inner : List Tree) (m n a b : Tree) →
+        Checks sig ctx m a → Checks sig (inner ++ a ∷ ctx) n b →
+        HasOneResult (simply sig) (erased (inner ++ ctx)) (erase a) (shift (length inner) 0 m)
+        (length inner) n (erase b)
+        ⊎ Overflows (erase a) (shift (length inner) 0 m) (length inner) n }
+    ensures overflow { (s : Simple) (m : Tree) (x : ℕ) (n : Tree) → Overflows s m x n →
+        (out : Tree) → HSub s m x n out → ⊥ }
 {}

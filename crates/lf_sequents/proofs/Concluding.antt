@@ -7,16 +7,16 @@ use Rattle.lf_signature.specs.Rules.{Sort, Premise, Plain, Under, ForExp, ForMem
 use Rattle.lf_signature.specs.Typing.{Checks, lam_checks}
 use Rattle.lf_signature.specs.Constants.{rule_at}
 use Rattle.lf_check.proofs.TypeLists.{ctx-push}
-use Rattle.lf_rules.specs.Plain.{binder_depth}
-use Rattle.lf_rules.specs.Instance.{nth_arg, form_with, premise_with, under_binder, by_rule, AreArguments, IsProof, AreProofs}
-use Rattle.lf_rules.proofs.Typed.{bounded}
-use Rattle.lf_rules.proofs.Use.{rule_checks}
+use Rattle.lf_terms.specs.Plain.{binder_depth}
+use Rattle.lf_terms.specs.Instance.{nth_arg, form_with, premise_with, under_binder, by_rule, AreArguments, IsProof, AreProofs}
+use Rattle.lf_terms.proofs.Typed.{bounded}
+use Rattle.lf_terms.proofs.Use.{rule_checks}
 use Rattle.lf_sequents.specs.declared.sequent.Sequent.{Sequent}
-use Rattle.lf_rules.specs.Instance.{trees_of}
+use Rattle.lf_terms.specs.Instance.{trees_of}
 use Rattle.lf_sequents.specs.Sequents.{IsSequent, AreSequents}
 use Rattle.lf_sequents.specs.Answers.{AreTyped, Binds, FitsPremise, FitPremises, proof_taken, proofs_taken, HasForm, Concludes}
 use Rattle.lf_sequents.specs.Room.{AreShallow, terms_of, HasVarRoom}
-use Rattle.lf_rules.proofs.Grown.{known-more}
+use Rattle.lf_terms.proofs.Grown.{known-more}
 use Rattle.lf_sequents.proofs.Fitting.{ctx-same}
 
 ctx-length : (t : TableView) (ids : List ℕ) → length (ctx_of t ids) ≡ length ids

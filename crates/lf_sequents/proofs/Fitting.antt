@@ -7,11 +7,11 @@ use Rattle.lf_signature.specs.Terms.{exp, mem, pf}
 use Rattle.lf_signature.specs.Rules.{Sort, sort_type, Premise, Plain, Under, ForExp, ForMem}
 use Rattle.lf_signature.specs.Typing.{Checks, atom_checks}
 use Rattle.lf_signature.specs.Laws.Decided.{synth_unique}
-use Rattle.lf_rules.specs.Instance.{form_with}
+use Rattle.lf_terms.specs.Instance.{form_with}
 use Rattle.lf_sequents.specs.declared.sequent.Sequent.{Sequent}
 use Rattle.lf_sequents.specs.Sequents.{IsOfTable, AreOfTable, IsSequent, AreSequents}
 use Rattle.lf_sequents.specs.Answers.{AreTyped, Binds, FitsPremise, FitPremises, proof_taken, proofs_taken}
-use Rattle.lf_rules.proofs.Grown.{known-more}
+use Rattle.lf_terms.proofs.Grown.{known-more}
 
 -- a context stays as the table grows
 pub ctx-same : (t u : TableView) (ids : List ℕ) → AllKnown t ids → Extends t u → ctx_of u ids ≡ ctx_of t ids

@@ -6,9 +6,9 @@ use Rattle.lf_signature.specs.Terms.{exp, mem, pf}
 use Rattle.lf_signature.specs.Rules.{Sort, sort_type, Premise, Plain, Under, ForExp, ForMem, Rule}
 use Rattle.lf_signature.specs.Typing.{Checks}
 use Rattle.lf_signature.specs.Constants.{rule_at}
-use Rattle.lf_rules.specs.Instance.{nth_arg, form_with, under_binder, by_rule}
+use Rattle.lf_terms.specs.Instance.{nth_arg, form_with, under_binder, by_rule}
 use Rattle.lf_sequents.specs.declared.sequent.Sequent.{Sequent}
-use Rattle.lf_rules.specs.Instance.{trees_of}
+use Rattle.lf_terms.specs.Instance.{trees_of}
 use Rattle.lf_sequents.specs.Sequents.{IsSequent}
 
 -- each term checks at its parameter's type

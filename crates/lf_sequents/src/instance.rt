@@ -6,8 +6,8 @@ ghost use Rattle.term_table.specs.Table.{IsKnown, AllKnown, tree_at, Extends};
 ghost use Rattle.lf_signature.specs.Schemas.{exp_of, mem_of, form_of, connective_constant};
 ghost use Rattle.lf_signature.specs.Nodes.{IsIdOf};
 ghost use Rattle.hereditary_subst.specs.Kept.{IsMemo};
-ghost use Rattle.lf_rules.specs.Instance.{nth_arg, exp_with, mem_with, form_with};
-ghost use Rattle.lf_rules.specs.Instance.{trees_of};
+ghost use Rattle.lf_terms.specs.Instance.{nth_arg, exp_with, mem_with, form_with};
+ghost use Rattle.lf_terms.specs.Instance.{trees_of};
 ghost use Rattle.lf_sequents.specs.Room.{raised_by};
 
 use crate::kept::{beta_id, raised};
@@ -20,7 +20,7 @@ use term_table::{Id, Node, Table};
 use word_ops::op_constant;
 
 /// The term for a parameter, under so many binders.
-#[tactic(auto, using(lf_rules::proofs::Grown::grown))]
+#[tactic(auto, using(lf_terms::proofs::Grown::grown))]
 fn parameter(
     table: &mut Table,
     memo: &mut Memo,
@@ -46,7 +46,7 @@ fn parameter(
 
 /// The expression with the terms for the parameters.
 #[cycle(words)]
-#[tactic(auto, using(lf_rules::proofs::Grown::grown))]
+#[tactic(auto, using(lf_terms::proofs::Grown::grown))]
 fn exp_id(
     table: &mut Table,
     memo: &mut Memo,
@@ -81,7 +81,7 @@ fn exp_id(
 
 /// The memory with the terms for the parameters.
 #[cycle(words)]
-#[tactic(auto, using(lf_rules::proofs::Grown::grown))]
+#[tactic(auto, using(lf_terms::proofs::Grown::grown))]
 fn mem_id(
     table: &mut Table,
     memo: &mut Memo,
@@ -121,7 +121,7 @@ fn connective_constant(connective: Connective) -> u32
 }
 
 /// Builds the formula `form` with the terms `params` for its parameters, raised by `depth`.
-#[tactic(auto, using(lf_rules::proofs::Grown::grown))]
+#[tactic(auto, using(lf_terms::proofs::Grown::grown))]
 pub fn form_id(
     table: &mut Table,
     memo: &mut Memo,

@@ -6,7 +6,7 @@ ghost use Rattle.term_table.specs.Subst.{erase, hsub_type};
 ghost use Rattle.term_table.specs.Table.{IsKnown, tree_at, Extends};
 ghost use Rattle.lf_signature.specs.Nodes.{IsIdOf};
 ghost use Rattle.hereditary_subst.specs.Kept.{IsMemo};
-ghost use Rattle.lf_rules.specs.Plain.{beta};
+ghost use Rattle.lf_terms.specs.Plain.{beta};
 
 use hereditary_subst::{Memo, subst_type_with, weaken_with};
 use lf_signature::pf;
@@ -60,7 +60,7 @@ fn put(
 /// substituted; if `f` is no abstraction, returns `f`.
 ///
 /// Errors: out of memory, also if substitution has no result; each id keeps its tree.
-#[tactic(auto, using(lf_rules::proofs::Grown::grown))]
+#[tactic(auto, using(lf_terms::proofs::Grown::grown))]
 pub fn beta_id(
     table: &mut Table,
     memo: &mut Memo,

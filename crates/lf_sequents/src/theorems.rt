@@ -7,7 +7,7 @@ ghost use Rattle.lf_signature.specs.Terms.{pf};
 ghost use Rattle.lf_signature.specs.Rules.{Rule, rule_type};
 ghost use Rattle.lf_signature.specs.Typing.{Checks};
 ghost use Rattle.lf_signature.specs.Constants.{rule_at};
-ghost use Rattle.lf_rules.specs.Instance.{trees_of, nth_arg, form_with, by_rule};
+ghost use Rattle.lf_terms.specs.Instance.{trees_of, nth_arg, form_with, by_rule};
 ghost use Rattle.lf_sequents.specs.declared.sequent.Sequent.{Sequent};
 ghost use Rattle.lf_sequents.specs.Sequents.{IsSequent, AreSequents};
 ghost use Rattle.lf_sequents.specs.Answers.{HasForm, proofs_taken};

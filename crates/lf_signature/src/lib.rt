@@ -1,4 +1,4 @@
-//! LF signatures: which type each constant has.
+//! LF signatures: which type each constant has, with the table of inference rules.
 //!
 //! The checker above is generic over [`Signature`] and uses its one call, `type_of`, with its laws:
 //! what a signature declares doesn't change as the table grows, and each type is closed and well

@@ -10,15 +10,15 @@ use Rattle.bpf_words.specs.declared.insn.Bpf.{Bpf}
 use Rattle.bpf_words.specs.declared.fault.BpfFlaw.{BpfFlaw}
 use Rattle.bpf_words.specs.Programs.{IsProgram}
 use Rattle.bpf_words.specs.Reading.{AreBytes, program_of}
-use Rattle.bpf_container.specs.Compiled.{IsCompiled}
+use Rattle.bpf_compile.specs.Compiled.{IsCompiled}
 use Rattle.bpf_compile.specs.Compilation.{bare_contents, compiled_container}
 use Rattle.bounds_prover.specs.Proving.{proved_container}
 use Rattle.pcc_lines.specs.Bpf.{bpf_flaw_line}
 use Rattle.pcc_lines.specs.Fixed.{bpf_too_long_line}
-use Rattle.pcc_exit.specs.Exits.{Exit}
-use Rattle.pcc_exit.specs.Stages.{Stage, stops, gives, reads, ◌>>=◌, went_on}
-use Rattle.pcc_exit.specs.Runs.{AreOctets}
-use Rattle.pcc_exit.proofs.RunLemmas.{is_stop, exit_at}
+use Rattle.pcc_stages.specs.Exits.{Exit}
+use Rattle.pcc_stages.specs.Stage.{Stage, stops, gives, reads, ◌>>=◌, went_on}
+use Rattle.pcc_stages.specs.Runs.{AreOctets}
+use Rattle.pcc_stages.proofs.RunLemmas.{is_stop, exit_at}
 use Rattle.pcc_stages.specs.Texts.{texts}
 use Rattle.pcc_stages.specs.Stages.Common.{refused}
 use Rattle.pcc_commands.specs.Stages.Proving.{container_proved}

@@ -12,11 +12,11 @@ use Rattle.pcc_gate.specs.Laws.{AcceptedFirst}
 use Rattle.pcc_gate.specs.WrittenOut.{IsAcceptedWrittenOut}
 use Rattle.pcc_gate.proofs.WrittenOut.{accepted-written, written-accepted}
 use Rattle.pcc_lines.specs.Fixed.{accepted_line, container_too_long_line}
-use Rattle.pcc_exit.specs.Exits.{Exit, Change}
-use Rattle.pcc_exit.specs.Requests.{no_memory_exit}
-use Rattle.pcc_exit.specs.Stages.{Stage, stops, gives, reads, ◌>>=◌, went_on, Asks, Follows}
-use Rattle.pcc_exit.specs.Runs.{Effect, AreOctets, Happens, Comes, stopped, printed, wrote, done_exit, written_exit}
-use Rattle.pcc_exit.proofs.RunLemmas.{is_stop, is_read}
+use Rattle.pcc_stages.specs.Exits.{Exit, Change}
+use Rattle.pcc_stages.specs.Requests.{no_memory_exit}
+use Rattle.pcc_stages.specs.Stage.{Stage, stops, gives, reads, ◌>>=◌, went_on, Asks, Follows}
+use Rattle.pcc_stages.specs.Runs.{Effect, AreOctets, Happens, Comes, stopped, printed, wrote, done_exit, written_exit}
+use Rattle.pcc_stages.proofs.RunLemmas.{is_stop, is_read}
 use Rattle.pcc_stages.specs.declared.files.TheConstants.{MAX_FILE}
 use Rattle.pcc_stages.specs.Texts.{texts}
 use Rattle.pcc_stages.specs.Stages.Common.{refused, printing}

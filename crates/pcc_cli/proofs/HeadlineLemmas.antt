@@ -30,20 +30,20 @@ use Rattle.pcc_gate.specs.Safe.{AcceptedSafe, AcceptedReturns}
 use Rattle.bounds_prover.specs.declared.fault.ProveFault.{ProveFault}
 use Rattle.bounds_prover.specs.Proving.{proved_container}
 use Rattle.bounds_prover.specs.ProvedLaws.{ProvedAccepted}
-use Rattle.container_upgrade.specs.declared.fault.UpgradeFault.{UpgradeFault}
-use Rattle.container_upgrade.specs.Upgrading.{upgraded_container}
-use Rattle.container_upgrade.specs.Upgrades.{IsUpgrade}
-use Rattle.container_upgrade.specs.Laws.{UpgradedExactly, UpgradedAccepted}
+use Rattle.gate_upgrade.specs.declared.fault.UpgradeFault.{UpgradeFault}
+use Rattle.gate_upgrade.specs.Upgrading.{upgraded_container}
+use Rattle.gate_upgrade.specs.Upgrades.{IsUpgrade}
+use Rattle.gate_upgrade.specs.Laws.{UpgradedExactly, UpgradedAccepted}
 use Rattle.pcc_words.specs.Invocations.{named, from_file, Invocation, asm, prove, check, run, ref, demo, upgrade, host, bpf}
 use Rattle.pcc_lines.specs.Fixed.{accepted_line, bpf_too_long_line, unknown_policy_line, container_too_long_line, packets_too_long_line, source_too_long_line}
 use Rattle.pcc_lines.specs.Refusals.{refusal_line}
 use Rattle.pcc_lines.specs.Results.{result_lines}
 use Rattle.pcc_lines.specs.Sources.{written_line}
-use Rattle.pcc_exit.specs.Exits.{Exit, Change}
-use Rattle.pcc_exit.specs.Requests.{missing_exit, read_fault_exit, no_memory_exit}
-use Rattle.pcc_exit.specs.Stages.{Stage, stops, gives, reads, ◌>>=◌, went_on, Follows}
-use Rattle.pcc_exit.specs.Runs.{Effect, Happens, written_exit, EndsRun, decided, out_of_memory as ran_out, Runs}
-use Rattle.pcc_exit.proofs.RunLemmas.{is_stop, is_read}
+use Rattle.pcc_stages.specs.Exits.{Exit, Change}
+use Rattle.pcc_stages.specs.Requests.{missing_exit, read_fault_exit, no_memory_exit}
+use Rattle.pcc_stages.specs.Stage.{Stage, stops, gives, reads, ◌>>=◌, went_on, Follows}
+use Rattle.pcc_stages.specs.Runs.{Effect, Happens, written_exit, EndsRun, decided, out_of_memory as ran_out, Runs}
+use Rattle.pcc_stages.proofs.RunLemmas.{is_stop, is_read}
 use Rattle.pcc_stages.specs.declared.files.TheConstants.{MAX_FILE}
 use Rattle.pcc_stages.specs.Texts.{texts}
 use Rattle.pcc_stages.specs.Stages.Common.{refused, policy_found, printing}
@@ -72,7 +72,7 @@ use Rattle.packet_store.proofs.StartLemmas.{start_from-good, start_from-state}
 use Rattle.packet_store.proofs.Meeting.{start_from-meets}
 use Rattle.reference_machine.specs.Agents.{IsInArena, AreInArena}
 use Rattle.word_ops.specs.Rights.{Rights}
-use Rattle.turn_laws.specs.Parts.{AreApart, LieIn, LieBetween, part_from}
+use Rattle.alpha_turns.specs.Parts.{AreApart, LieIn, LieBetween, part_from}
 use Rattle.agent_host.specs.declared.host.TheConstants.{MAX_AGENTS}
 use Rattle.agent_host.specs.Agents.{base_of}
 use Rattle.pcc_cli.specs.Headline.{agent_part, StaysInPart, AgentsStayInParts, IsJudged, lines_exit, run_exit, RunsCode, not_accepted, accepted, Refs, no_code, ran, Makes, not_made, made, Demonstrates, demonstrated, not_demonstrated, StopsWith, AssemblesTo, ProvesTo, UpgradesTo, CompilesTo, IsToldOf, Checks, UnderNamed, Does, Means, came, out_of_memory, MeansIfCommand, AcceptedRunsSafely, IsShortOrReturns, BoundedReturns}

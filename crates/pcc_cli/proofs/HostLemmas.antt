@@ -25,11 +25,11 @@ use Rattle.pcc_gate.specs.Laws.{AcceptedFirst}
 use Rattle.pcc_lines.specs.Fixed.{container_too_long_line, packets_too_long_line, script_too_long_line, unknown_policy_line}
 use Rattle.pcc_lines.specs.Refusals.{refusal_line}
 use Rattle.pcc_lines.specs.Scripts.{script_fault_line}
-use Rattle.pcc_exit.specs.Exits.{Exit}
-use Rattle.pcc_exit.specs.Requests.{missing_exit, read_fault_exit, no_memory_exit}
-use Rattle.pcc_exit.specs.Stages.{Stage, stops, gives, reads, ◌>>=◌, went_on, Follows}
-use Rattle.pcc_exit.specs.Runs.{Effect, Happens, written_exit}
-use Rattle.pcc_exit.proofs.RunLemmas.{is_read}
+use Rattle.pcc_stages.specs.Exits.{Exit}
+use Rattle.pcc_stages.specs.Requests.{missing_exit, read_fault_exit, no_memory_exit}
+use Rattle.pcc_stages.specs.Stage.{Stage, stops, gives, reads, ◌>>=◌, went_on, Follows}
+use Rattle.pcc_stages.specs.Runs.{Effect, Happens, written_exit}
+use Rattle.pcc_stages.proofs.RunLemmas.{is_read}
 use Rattle.pcc_stages.specs.declared.files.TheConstants.{MAX_FILE}
 use Rattle.pcc_stages.specs.Texts.{texts}
 use Rattle.pcc_stages.specs.Stages.Common.{refused, policy_found, printing}

@@ -36,14 +36,14 @@ use Rattle.bpf_words.specs.declared.fault.BpfFlaw.{BpfFlaw}
 use Rattle.bpf_words.specs.declared.fault.BpfFlaw.TheVariants as flaw
 use Rattle.bpf_words.specs.Reading.{program_of}
 use Rattle.bpf_compile.specs.Compilation.{compiled_container}
-use Rattle.demo_input.specs.Sources.{demo_source}
+use Rattle.pcc_demo.specs.Sources.{demo_source}
 use Rattle.pcc_gate.specs.declared.refusal.Refusal.{Refusal}
 use Rattle.pcc_gate.specs.declared.refusal.Refusal.TheVariants as refusal
 use Rattle.pcc_gate.specs.First.{first_refusal}
 use Rattle.pcc_gate.specs.ForPolicy.{is_for}
-use Rattle.container_upgrade.specs.declared.fault.UpgradeFault.{UpgradeFault}
-use Rattle.container_upgrade.specs.declared.fault.UpgradeFault.TheVariants as upgrade_fault
-use Rattle.container_upgrade.specs.Upgrading.{upgraded_container}
+use Rattle.gate_upgrade.specs.declared.fault.UpgradeFault.{UpgradeFault}
+use Rattle.gate_upgrade.specs.declared.fault.UpgradeFault.TheVariants as upgrade_fault
+use Rattle.gate_upgrade.specs.Upgrading.{upgraded_container}
 use Rattle.pcc_words.specs.Invocations.{named, from_file, Invocation, asm, prove, check, run, ref, demo, upgrade, host, bpf}
 use Rattle.reference_machine.specs.Starts.{StartView}
 use Rattle.packet_store.specs.PolicyStarts.{start_from}
@@ -64,11 +64,11 @@ use Rattle.pcc_lines.specs.Proving.{not_easy_line, too_big_line}
 use Rattle.pcc_lines.specs.Refusals.{refusal_line}
 use Rattle.pcc_lines.specs.Results.{result_lines}
 use Rattle.pcc_lines.specs.Sources.{source_fault_line}
-use Rattle.pcc_exit.specs.Exits.{Exit}
-use Rattle.pcc_exit.specs.Requests.{Standing, command, no_memory_exit}
-use Rattle.pcc_exit.specs.Stages.{Stage, stops, gives, reads, ◌>>=◌}
-use Rattle.pcc_exit.specs.Runs.{Effect, IsStop, IsSuited}
-use Rattle.pcc_exit.proofs.RunLemmas.{is_read}
+use Rattle.pcc_stages.specs.Exits.{Exit}
+use Rattle.pcc_stages.specs.Requests.{Standing, command, no_memory_exit}
+use Rattle.pcc_stages.specs.Stage.{Stage, stops, gives, reads, ◌>>=◌}
+use Rattle.pcc_stages.specs.Runs.{Effect, IsStop, IsSuited}
+use Rattle.pcc_stages.proofs.RunLemmas.{is_read}
 use Rattle.pcc_stages.specs.Texts.{texts}
 use Rattle.pcc_stages.specs.declared.files.TheConstants.{MAX_FILE, MAX_POLICY_FILE}
 use Rattle.pcc_stages.specs.Stages.Policies.{policy_spelled, policy_in, policy_from}

@@ -36,8 +36,8 @@ use Rattle.bpf_words.specs.Values.{bpf_value}
 use Rattle.bpf_code.specs.Blocks.{nonzero_flag}
 use Rattle.bpf_compile.specs.Compilation.{compiled_container}
 use Rattle.pcc_words.specs.Invocations.{named, from_file, Invocation, asm, prove, check, run, ref, demo, upgrade, host, bpf}
-use Rattle.container_upgrade.specs.Upgrades.{IsUpgrade}
-use Rattle.turn_laws.specs.Parts.{AreApart, LieIn, part_from}
+use Rattle.gate_upgrade.specs.Upgrades.{IsUpgrade}
+use Rattle.alpha_turns.specs.Parts.{AreApart, LieIn, part_from}
 use Rattle.agent_script.specs.declared.fault.ScriptFlaw.{ScriptFlaw}
 use Rattle.agent_script.specs.declared.script.TheConstants.{MAX_SCRIPT}
 use Rattle.agent_script.specs.Names.{script_flaw_name}
@@ -53,12 +53,12 @@ use Rattle.pcc_lines.specs.PacketFaults.{packet_fault_line}
 use Rattle.pcc_lines.specs.Refusals.{refusal_line}
 use Rattle.pcc_lines.specs.Results.{result_lines}
 use Rattle.pcc_lines.specs.Sources.{written_line}
-use Rattle.pcc_exit.specs.Exits.{Exit}
-use Rattle.pcc_exit.specs.Requests.{missing_exit, read_fault_exit, no_memory_exit}
-use Rattle.pcc_exit.specs.Runs.{Effect, done_exit, written_exit, Prints, NoneFailed}
+use Rattle.pcc_stages.specs.Exits.{Exit}
+use Rattle.pcc_stages.specs.Requests.{missing_exit, read_fault_exit, no_memory_exit}
+use Rattle.pcc_stages.specs.Runs.{Effect, done_exit, written_exit, Prints, NoneFailed}
 use Rattle.asm_text.specs.declared.limits.TheConstants.{MAX_SOURCE}
 use Rattle.bounds_prover.specs.Proving.{proved_container}
-use Rattle.pcc_exit.specs.Stages.{Stage, stops, gives, went_on, Follows}
+use Rattle.pcc_stages.specs.Stage.{Stage, stops, gives, went_on, Follows}
 use Rattle.pcc_stages.specs.Texts.{texts}
 use Rattle.pcc_stages.specs.Stages.Common.{refused, printing}
 use Rattle.pcc_stages.specs.Stages.Containers.{code_in}

@@ -5,9 +5,9 @@ ghost use Rattle.file_port.specs.Events.{Event};
 ghost use Rattle.file_port.specs.Files.{FilesState};
 ghost use Rattle.file_port.specs.Sink.{SinkState};
 ghost use Rattle.pcc_words.specs.Invocations.{command_of};
-ghost use Rattle.pcc_exit.specs.Runs.{Runs, Prints};
-ghost use Rattle.pcc_exit.specs.Ends.{Ends};
-ghost use Rattle.pcc_exit.specs.Accounts.{Accounts};
+ghost use Rattle.pcc_stages.specs.Runs.{Runs, Prints};
+ghost use Rattle.pcc_stages.specs.Ends.{Ends};
+ghost use Rattle.pcc_stages.specs.Accounts.{Accounts};
 ghost use Rattle.pcc_stages.specs.Texts.{texts};
 ghost use Rattle.pcc_stages.specs.Decisions.{Decides, exit_of};
 ghost use Rattle.pcc_commands.specs.Tasks.{task_of, request_of};
@@ -115,11 +115,11 @@ pub fn pcc<F: Files, S: Sink>(alloc: Global, words: Vec<String>, files: &mut F, 
     packet_store::laws();
     bounds_prover::prove_laws();
     bpf_words::laws();
-    bpf_container::laws();
+    bpf_compile::laws();
     policy_set::laws();
-    container_upgrade::laws();
+    gate_upgrade::laws();
     alpha_cfg::isolation_laws();
-    turn_laws::part_laws();
+    alpha_turns::part_laws();
     let decision = decide(alloc, words.as_slice(), files);
     print(decision, out)
 }
@@ -136,5 +136,5 @@ pub fn laws()
         (s t : SinkState) (status : ℕ) → Runs texts (task_of args).stage e e' f g s t status
         → Accounts (request_of args) f g s t status }
 {
-    pcc_exit::laws();
+    pcc_stages::laws();
 }

@@ -11,9 +11,9 @@ use Rattle.packet_store.specs.PolicyStarts.{start_from}
 use Rattle.pcc_gate.specs.declared.refusal.Refusal.{Refusal}
 use Rattle.agent_host.specs.Agents.{base_of}
 use Rattle.pcc_lines.specs.Agents.{agent_line, short_line}
-use Rattle.pcc_exit.specs.Exits.{Exit}
-use Rattle.pcc_exit.specs.Stages.{Stage, stops, gives, reads, ◌>>=◌, went_on}
-use Rattle.pcc_exit.specs.Runs.{AreOctets}
+use Rattle.pcc_stages.specs.Exits.{Exit}
+use Rattle.pcc_stages.specs.Stage.{Stage, stops, gives, reads, ◌>>=◌, went_on}
+use Rattle.pcc_stages.specs.Runs.{AreOctets}
 use Rattle.pcc_stages.specs.Texts.{texts}
 use Rattle.pcc_stages.specs.Stages.Common.{refused}
 use Rattle.pcc_stages.specs.Stops.{refused_text, end_of}

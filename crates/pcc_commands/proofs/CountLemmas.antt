@@ -11,7 +11,7 @@ use Rattle.safe_host.specs.Hosts.{HostView, state_under, start_rights}
 use Rattle.safe_host.specs.Runs.{Loads, IsRun, outcome_of}
 use Rattle.safe_host.specs.Counts.{steps_of, MakesSteps}
 use Rattle.host_steps.specs.declared.ended.Ended.{Ended}
-use Rattle.demo_input.specs.Packets.{demo_packet}
+use Rattle.pcc_demo.specs.Packets.{demo_packet}
 use Rattle.pcc_commands.specs.Commands.Demo.{ones_of, count_from, both_counts, packet_counts}
 use Rattle.vcgen.specs.Safety.{all_steps}
 use Rattle.pcc_commands.specs.declared.commands.demo.Counts.{Counts}

@@ -5,8 +5,8 @@ use Rattle.file_port.specs.Files.{FilesState}
 use Rattle.file_port.specs.declared.Put.{Put}
 use Rattle.file_port.specs.declared.Put.TheVariants as put
 use Rattle.pcc_lines.specs.Sources.{written_line}
-use Rattle.pcc_exit.specs.Stages.{Stage, gives, ◌>>=◌, Follows}
-use Rattle.pcc_exit.specs.Runs.{Effect, Happens, wrote, done_exit, written_exit}
+use Rattle.pcc_stages.specs.Stage.{Stage, gives, ◌>>=◌, Follows}
+use Rattle.pcc_stages.specs.Runs.{Effect, Happens, wrote, done_exit, written_exit}
 use Rattle.pcc_stages.specs.Texts.{texts}
 use Rattle.pcc_stages.specs.Answers.{Gives}
 use Rattle.pcc_stages.specs.Decisions.{end_of_decision, EndsWith, Decides}

@@ -11,7 +11,7 @@ use Rattle.policy_set.specs.Views.{PolicyView}
 use Rattle.agent_script.specs.declared.script.Load.{Load}
 use Rattle.agent_script.specs.Statements.{LoadView}
 use Rattle.agent_script.specs.Scripts.{load_view}
-use Rattle.pcc_exit.specs.Stages.{Stage, gives, ◌>>=◌}
+use Rattle.pcc_stages.specs.Stage.{Stage, gives, ◌>>=◌}
 use Rattle.pcc_stages.specs.declared.stops.Stop.{Stop}
 use Rattle.pcc_stages.specs.declared.stops.Stop.TheVariants as stop
 use Rattle.pcc_stages.specs.Stages.Common.{policy_named}

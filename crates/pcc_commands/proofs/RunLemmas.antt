@@ -13,7 +13,7 @@ use Rattle.pcc_gate.proofs.ForPolicy.{for-true}
 use Rattle.pcc_gate.specs.First.{first_refusal}
 use Rattle.pcc_gate.specs.Answers.{IsAcceptedBy}
 use Rattle.pcc_gate.specs.Views.{AcceptedView}
-use Rattle.pcc_exit.specs.Stages.{gives, ◌>>=◌}
+use Rattle.pcc_stages.specs.Stage.{gives, ◌>>=◌}
 use Rattle.pcc_stages.specs.Stages.Containers.{container_in, code_found, code_in}
 use Rattle.pcc_stages.specs.Answers.{GivesPure}
 use Rattle.pcc_stages.specs.declared.stops.Stop.{Stop}

@@ -13,10 +13,10 @@ use Rattle.policy_set.specs.Views.{PolicyView}
 use Rattle.packet_store.specs.declared.reader.TheConstants.{MAX_PACKET}
 use Rattle.reference_machine.specs.Starts.{StartView}
 use Rattle.packet_store.specs.PolicyStarts.{start_from}
-use Rattle.part_runs.specs.Parts.{rights_of}
-use Rattle.turn_laws.specs.declared.turns.Turn.{Turn}
-use Rattle.turn_laws.specs.Turns.{share_of, budget_of}
-use Rattle.turn_laws.proofs.Members.{set_at, set_other}
+use Rattle.host_steps.specs.Parts.{rights_of}
+use Rattle.alpha_turns.specs.declared.turns.Turn.{Turn}
+use Rattle.alpha_turns.specs.Turns.{share_of, budget_of}
+use Rattle.alpha_turns.proofs.Members.{set_at, set_other}
 use Rattle.agent_host.specs.declared.phase.Phase.TheVariants as phases
 use Rattle.agent_host.specs.declared.turned.Turned.{Turned}
 use Rattle.agent_host.specs.Agents.{HostedView, base_of, RightsFitAgent, agent_at}

@@ -17,9 +17,9 @@ use Rattle.packet_store.proofs.StartLemmas.{the_same}
 use Rattle.host_steps.specs.declared.ended.Ended.{Ended}
 use Rattle.host_steps.specs.declared.ended.Ended.TheVariants as ended
 use Rattle.host_steps.specs.RunEnds.{outcome_of}
-use Rattle.part_runs.specs.Parts.{part_state, rights_of}
-use Rattle.turn_laws.specs.Turns.{may_go_on}
-use Rattle.turn_laws.proofs.Running.{ended as ended_stays}
+use Rattle.host_steps.specs.Parts.{part_state, rights_of}
+use Rattle.alpha_turns.specs.Turns.{may_go_on}
+use Rattle.alpha_turns.proofs.Running.{ended as ended_stays}
 use Rattle.agent_host.specs.declared.phase.Phase.{Phase}
 use Rattle.agent_host.specs.declared.phase.Phase.TheVariants as phases
 use Rattle.agent_host.specs.declared.turned.Turned.{Turned}

@@ -6,8 +6,8 @@ use Rattle.pcc_lines.specs.Demo.{demo_lines}
 use Rattle.pcc_lines.specs.Fixed.{accepted_line}
 use Rattle.pcc_lines.specs.Results.{result_lines}
 use Rattle.pcc_lines.specs.Sources.{written_line}
-use Rattle.pcc_exit.specs.Exits.{Exit}
-use Rattle.pcc_exit.specs.Runs.{Effect, done_exit}
+use Rattle.pcc_stages.specs.Exits.{Exit}
+use Rattle.pcc_stages.specs.Runs.{Effect, done_exit}
 use Rattle.pcc_commands.specs.Commands.Host.{turn_lines}
 use Rattle.pcc_commands.specs.Turns.{members_with}
 use Rattle.pcc_commands.specs.declared.turns.TurnJob.{TurnJob}

@@ -3,9 +3,9 @@ use Rattle.std.specs.Prelude.{ℕ, List, [], ◌∷◌, Option, Some, None}
 use Rattle.policy_set.specs.Views.{PolicyView}
 use Rattle.policy_set.specs.Names.{policy_of}
 use Rattle.pcc_words.specs.Invocations.{named, from_file, Invocation, asm, prove, check, run, ref, demo, upgrade, host, bpf, command_of}
-use Rattle.pcc_exit.specs.Requests.{Request, Standing, no_command, unknown_policy, command, usage_exit}
-use Rattle.pcc_exit.specs.Stages.{Stage, stops}
-use Rattle.pcc_exit.specs.Runs.{Effect, Task, request_of_task}
+use Rattle.pcc_stages.specs.Requests.{Request, Standing, no_command, unknown_policy, command, usage_exit}
+use Rattle.pcc_stages.specs.Stage.{Stage, stops}
+use Rattle.pcc_stages.specs.Runs.{Effect, Task, request_of_task}
 use Rattle.pcc_stages.specs.Texts.{texts}
 use Rattle.pcc_commands.specs.Commands.Assemble.{asm_command}
 use Rattle.pcc_commands.specs.Commands.Check.{check_command}

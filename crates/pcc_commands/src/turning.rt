@@ -2,8 +2,8 @@
 
 ghost use Rattle.std.specs.Prelude.{◌≡◌, ◌<◌, ◌≤◌, ◌++◌, ◌∷◌, [], List, length, slice_get};
 ghost use Rattle.file_port.specs.Sink.{Puts};
-ghost use Rattle.turn_laws.specs.declared.turns.Turn as turns;
-ghost use Rattle.turn_laws.specs.Turns.{budget_of};
+ghost use Rattle.alpha_turns.specs.declared.turns.Turn as turns;
+ghost use Rattle.alpha_turns.specs.Turns.{budget_of};
 ghost use Rattle.agent_host.specs.declared.host.TheConstants.{MAX_AGENTS};
 ghost use Rattle.agent_host.specs.Hosts.{IsLoadedAt};
 ghost use Rattle.pcc_commands.specs.Stages.Hosting.{Member};

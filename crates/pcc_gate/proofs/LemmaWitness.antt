@@ -9,8 +9,8 @@ use Rattle.alpha_cfg.specs.CodeDecoding.{decoded_code}
 use Rattle.alpha_cfg.specs.Flow.{IsCode}
 use Rattle.alpha_cfg.proofs.Deciding.{uncut_none}
 use Rattle.formula_tree.specs.Formulas.{FTrue, FAnd}
-use Rattle.formula_terms.specs.Encoding.{form_encoding}
-use Rattle.formula_terms.specs.ProofTerms.{tt_i, and_i}
+use Rattle.lf_terms.specs.Encoding.{form_encoding}
+use Rattle.lf_terms.specs.ProofTerms.{tt_i, and_i}
 use Rattle.lf_encode.specs.Contexts.{machine_context, machine_names, sort_types}
 use Rattle.lf_signature.specs.Constants.{declared, constant_types, the_rules}
 use Rattle.lf_signature.specs.declared.WordSignature.TheVariants.{Sigma2}

@@ -14,10 +14,10 @@ use Rattle.lf_signature.specs.Typing.{Checks}
 use Rattle.lf_signature.specs.Laws.Decided.{checks_is, checks_follows}
 use Rattle.lf_lemmas.specs.Lemmas.{formulas_of, with_lemmas, AreFormulas}
 use Rattle.lf_lemmas.specs.Checking.{LemmasCheck}
-use Rattle.lemma_check.specs.First.{first_failing, passes, proves_before}
-use Rattle.lemma_check.specs.declared.searches.Asked.TheVariants.{Formula}
-use Rattle.lemma_check.proofs.Failing.{none_is, all_formulas, formula_passes}
-use Rattle.lemma_check.proofs.Backwards.{all_before, before_passes}
+use Rattle.lf_lemma_check.specs.First.{first_failing, passes, proves_before}
+use Rattle.lf_lemma_check.specs.declared.searches.Asked.TheVariants.{Formula}
+use Rattle.lf_lemma_check.proofs.Failing.{none_is, all_formulas, formula_passes}
+use Rattle.lf_lemma_check.proofs.Backwards.{all_before, before_passes}
 use Rattle.lf_encode.specs.Contexts.{sort_types}
 use Rattle.vcgen.specs.declared.condition.TheConstants.{MAX_HEIGHT}
 use Rattle.vcgen.specs.Encoded.{context_of, AreForms}

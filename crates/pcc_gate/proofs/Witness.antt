@@ -16,8 +16,8 @@ use Rattle.alpha_cfg.specs.Flow.{IsCode}
 use Rattle.alpha_cfg.proofs.Deciding.{uncut_none}
 use Rattle.alpha_cfg.proofs.Readings.{decoded_code-ok, IsDecoded-IsCodeAnswer}
 use Rattle.formula_tree.specs.Formulas.{Exp, EReg, EVar, ELit, EOp, ESel, MVar, Form, FTrue, FFalse, FRel, FRd, FWr, FAnd, FImp, FAllm}
-use Rattle.formula_terms.specs.Encoding.{form_encoding}
-use Rattle.formula_terms.specs.ProofTerms.{tt_i, and_i, and_l, and_r, imp_i, imp_e, all_i, allm_i}
+use Rattle.lf_terms.specs.Encoding.{form_encoding}
+use Rattle.lf_terms.specs.ProofTerms.{tt_i, and_i, and_l, and_r, imp_i, imp_e, all_i, allm_i}
 use Rattle.lf_encode.specs.Contexts.{machine_context, machine_names, sort_types, IsFormIn}
 use Rattle.lf_signature.specs.Constants.{declared, constant_types, the_rules}
 use Rattle.lf_signature.specs.Terms.{form, pf}

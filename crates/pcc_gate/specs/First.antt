@@ -14,8 +14,8 @@ use Rattle.lf_signature.specs.Constants.{declared}
 use Rattle.lf_signature.specs.Terms.{form, pf}
 use Rattle.lf_signature.specs.Decide.{checks_of}
 use Rattle.lf_lemmas.specs.Lemmas.{formulas_of, with_lemmas}
-use Rattle.lemma_check.specs.First.{first_failing, passes, proves_before}
-use Rattle.lemma_check.specs.declared.searches.Asked.TheVariants.{Formula}
+use Rattle.lf_lemma_check.specs.First.{first_failing, passes, proves_before}
+use Rattle.lf_lemma_check.specs.declared.searches.Asked.TheVariants.{Formula}
 use Rattle.lf_encode.specs.Encoding.{form_encoding}
 use Rattle.lf_encode.specs.Contexts.{sort_types}
 use Rattle.lf_encode.specs.Naming.{unnamed_form}

@@ -1,4 +1,4 @@
-//! Prints each output line of the programs, one function for each, as specified.
+//! Prints each output line of the programs, acceptance and refusals among them, as specified.
 //!
 //! Each function has one clause: it writes the line, or a prefix of it if a write fails. A line is
 //! made in a fixed buffer and written as one piece; a line with a name is three pieces. No call

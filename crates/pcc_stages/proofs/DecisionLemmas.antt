@@ -10,10 +10,10 @@ use Rattle.file_port.specs.declared.Put.{Put}
 use Rattle.file_port.specs.declared.Put.TheVariants as put
 use Rattle.file_port.proofs.PutLemmas.{with_piece-nil}
 use Rattle.policy_set.specs.Views.{PolicyView}
-use Rattle.pcc_exit.specs.Exits.{Exit}
-use Rattle.pcc_exit.specs.Requests.{no_memory_exit}
-use Rattle.pcc_exit.specs.Stages.{Stage, stops, gives, ◌>>=◌, went_on, Follows}
-use Rattle.pcc_exit.specs.Runs.{Effect, NoneFailed, Comes, stopped, printed, wrote, done_exit, written_exit, status_after, Prints, EndsRun, decided, out_of_memory, Runs}
+use Rattle.pcc_stages.specs.Exits.{Exit}
+use Rattle.pcc_stages.specs.Requests.{no_memory_exit}
+use Rattle.pcc_stages.specs.Stage.{Stage, stops, gives, ◌>>=◌, went_on, Follows}
+use Rattle.pcc_stages.specs.Runs.{Effect, NoneFailed, Comes, stopped, printed, wrote, done_exit, written_exit, status_after, Prints, EndsRun, decided, out_of_memory, Runs}
 use Rattle.pcc_stages.specs.Texts.{texts, texts_with}
 use Rattle.pcc_stages.specs.Stages.Common.{printing, ending}
 use Rattle.pcc_stages.specs.Stops.{end_of}

@@ -1,3 +1,5 @@
 pub mod StageLemmas
 pub mod ReadingLemmas
 pub mod DecisionLemmas
+pub mod AccountLemmas
+pub mod RunLemmas

@@ -7,7 +7,7 @@ use Rattle.alpha_cfg.specs.CodeDecoding.{decoded_code}
 use Rattle.policy_set.specs.Views.{PolicyView}
 use Rattle.proof_container.specs.Contents.{Contents}
 use Rattle.proof_container.specs.Versions.{profile_of}
-use Rattle.pcc_exit.specs.Stages.{gives, ◌>>=◌}
+use Rattle.pcc_stages.specs.Stage.{gives, ◌>>=◌}
 use Rattle.pcc_stages.specs.Stages.Containers.{container_in, code_found, code_in}
 
 -- the code of a container that was found, read in a profile that is its version's

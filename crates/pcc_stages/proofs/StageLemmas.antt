@@ -6,9 +6,9 @@ use Rattle.std.specs.Result.{IsErrAnd}
 use Rattle.file_port.specs.Events.{Given, whole, missing, too_long, failed, no_memory, Event, was_read, was_written, was_put}
 use Rattle.file_port.specs.Files.{FilesState}
 use Rattle.file_port.specs.Files.{Reads}
-use Rattle.pcc_exit.specs.Exits.{Exit}
-use Rattle.pcc_exit.specs.Stages.{Stage, stops, gives, reads, ◌>>=◌, went_on, Asks, Follows}
-use Rattle.pcc_exit.specs.Runs.{AreOctets, Happens, NoneFailed}
+use Rattle.pcc_stages.specs.Exits.{Exit}
+use Rattle.pcc_stages.specs.Stage.{Stage, stops, gives, reads, ◌>>=◌, went_on, Asks, Follows}
+use Rattle.pcc_stages.specs.Runs.{AreOctets, Happens, NoneFailed}
 use Rattle.pcc_stages.specs.Texts.{texts}
 use Rattle.pcc_stages.specs.Stops.{end_of}
 use Rattle.pcc_stages.specs.Answers.{StopsAs, GivesPure, IsClean, IsCleanFor, Gives}

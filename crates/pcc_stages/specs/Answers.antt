@@ -2,9 +2,9 @@
 use Rattle.std.specs.Prelude.{◌≡◌, ℕ, ◌*◌, ◌/◌, ◌<◌, ◌≤◌, List, ◌++◌, length, Option, Some, None, Result, Ok, Err}
 use Rattle.file_port.specs.Events.{Event}
 use Rattle.file_port.specs.Files.{FilesState}
-use Rattle.pcc_exit.specs.Exits.{Exit}
-use Rattle.pcc_exit.specs.Stages.{Stage, stops, gives, Follows}
-use Rattle.pcc_exit.specs.Runs.{Happens, NoneFailed}
+use Rattle.pcc_stages.specs.Exits.{Exit}
+use Rattle.pcc_stages.specs.Stage.{Stage, stops, gives, Follows}
+use Rattle.pcc_stages.specs.Runs.{Happens, NoneFailed}
 use Rattle.pcc_stages.specs.Texts.{texts}
 use Rattle.pcc_stages.specs.declared.stops.Stop.{Stop}
 use Rattle.pcc_stages.specs.Stops.{end_of}

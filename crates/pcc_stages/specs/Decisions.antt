@@ -2,10 +2,10 @@
 use Rattle.std.specs.Prelude.{◌≡◌, List, ◌++◌, Option, Some, None, unwrap_or, Result, Ok, Err}
 use Rattle.file_port.specs.Events.{Event}
 use Rattle.file_port.specs.Files.{FilesState}
-use Rattle.pcc_exit.specs.Exits.{Exit}
-use Rattle.pcc_exit.specs.Requests.{no_memory_exit}
-use Rattle.pcc_exit.specs.Stages.{Stage, Follows}
-use Rattle.pcc_exit.specs.Runs.{Effect, Happens, NoneFailed, Comes}
+use Rattle.pcc_stages.specs.Exits.{Exit}
+use Rattle.pcc_stages.specs.Requests.{no_memory_exit}
+use Rattle.pcc_stages.specs.Stage.{Stage, Follows}
+use Rattle.pcc_stages.specs.Runs.{Effect, Happens, NoneFailed, Comes}
 use Rattle.pcc_stages.specs.Texts.{texts}
 use Rattle.pcc_stages.specs.declared.stops.Stop.{Stop}
 use Rattle.pcc_stages.specs.Stops.{end_of}

@@ -3,3 +3,9 @@ pub mod Stages
 pub mod Stops
 pub mod Answers
 pub mod Decisions
+pub mod Exits
+pub mod Requests
+pub mod Stage
+pub mod Runs
+pub mod Ends
+pub mod Accounts

@@ -14,8 +14,8 @@ use Rattle.pcc_lines.specs.Proving.{not_easy_line, too_big_line}
 use Rattle.pcc_lines.specs.Refusals.{refusal_line}
 use Rattle.pcc_lines.specs.Scripts.{script_fault_line}
 use Rattle.pcc_lines.specs.Sources.{source_fault_line}
-use Rattle.pcc_exit.specs.Exits.{Exit}
-use Rattle.pcc_exit.specs.Requests.{usage_exit, missing_exit, read_fault_exit, write_fault_exit, no_memory_exit}
+use Rattle.pcc_stages.specs.Exits.{Exit}
+use Rattle.pcc_stages.specs.Requests.{usage_exit, missing_exit, read_fault_exit, write_fault_exit, no_memory_exit}
 use Rattle.pcc_stages.specs.Texts.{texts}
 use Rattle.pcc_stages.specs.Stages.Common.{refused}
 use Rattle.pcc_stages.specs.declared.agent_stop.AgentStop.{AgentStop}

@@ -2,7 +2,7 @@
 use Rattle.std.specs.Prelude.{ℕ, List}
 use Rattle.pcc_lines.specs.Fixed.{usage_line, unknown_policy_line}
 use Rattle.pcc_lines.specs.Named.{missing_line, read_fault_line, write_fault_line}
-use Rattle.pcc_exit.specs.Requests.{Texts}
+use Rattle.pcc_stages.specs.Requests.{Texts}
 
 -- those of a program with this line of usage
 abbrev pub texts_with : List ℕ → Texts

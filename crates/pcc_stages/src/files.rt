@@ -1,7 +1,7 @@
 //! Stages that read the bytes of a file.
 
 ghost use Rattle.std.specs.Prelude.{◌≤◌, ◌<◌, ℕ, length, slice_index, IfOk};
-ghost use Rattle.pcc_exit.specs.Stages.{reads, gives};
+ghost use Rattle.pcc_stages.specs.Stage.{reads, gives};
 ghost use Rattle.pcc_stages.specs.Stages.Common.{refused};
 ghost use Rattle.pcc_stages.specs.Answers.{Gives};
 ghost use Rattle.pcc_stages.specs.Stops.{refused_text};

@@ -2,7 +2,7 @@
 
 ghost use Rattle.std.specs.Prelude.{◌≡◌};
 ghost use Rattle.file_port.specs.Sink.{Puts};
-ghost use Rattle.pcc_exit.specs.Runs.{status_after};
+ghost use Rattle.pcc_stages.specs.Runs.{status_after};
 ghost use Rattle.pcc_stages.specs.Stops.{stop_exit};
 
 use crate::refused_line::RefusedLine;

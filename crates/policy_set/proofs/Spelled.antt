@@ -4,8 +4,8 @@ use Rattle.std.specs.Prelude.{nat_lt}
 use Rattle.std.proofs.lemmas.Bool.{cond-false, le-ltb, ltb-false}
 use Rattle.term_table.specs.Steps.{◌>>=◌}
 use Rattle.word_ops.specs.declared.Profile.TheVariants.{Two}
-use Rattle.text_lines.specs.Lines.{AreLines, lines_of}
-use Rattle.text_lines.proofs.Endings.{lines_are, are_lines}
+use Rattle.text_tokens.specs.Lines.{AreLines, lines_of}
+use Rattle.text_tokens.proofs.Endings.{lines_are, are_lines}
 use Rattle.formula_tree.specs.Formulas.{Form}
 use Rattle.formula_text.specs.Parsing.{FaultAt, parsed_form}
 use Rattle.formula_text.proofs.Joined.{spelled_parsed, parsed_spelled}

@@ -10,7 +10,7 @@ use Rattle.word_ops.specs.declared.Profile.TheVariants.{Two}
 use Rattle.word_ops.specs.declared.Rel.TheVariants as R
 use Rattle.word_ops.specs.Operators.{op_keyword, has_op}
 use Rattle.word_ops.proofs.EachOp.{each_op}
-use Rattle.text_lines.specs.Lines.{IsLine, ends_in_cr, AreLines, none, by_lf}
+use Rattle.text_tokens.specs.Lines.{IsLine, ends_in_cr, AreLines, none, by_lf}
 use Rattle.formula_tree.specs.Formulas.{Exp, EReg, ELeft, EVar, ELit, EOp, ESel, MemExp, MMem, MVar, MUpd, Form, FTrue, FFalse, FRel, FRd, FWr, FAnd, FOr, FImp, FAll, FAllm}
 use Rattle.formula_tree.specs.Scope.{VarSort, OfWord, OfMem, IsOverExp, IsOverMem, IsOver}
 use Rattle.formula_tree.specs.Sizes.{form_height, binders}

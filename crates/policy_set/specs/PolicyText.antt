@@ -2,7 +2,7 @@
 use Rattle.std.specs.Prelude.{◌≡◌, ◌≤◌, ℕ, nat_lt, if◌then◌else◌, false, List, [], ◌∷◌, length, None, Result, Ok, Err}
 use Rattle.word_ops.specs.declared.Profile.TheVariants.{Two}
 use Rattle.term_table.specs.Steps.{◌>>=◌}
-use Rattle.text_lines.specs.Lines.{AreLines, lines_of}
+use Rattle.text_tokens.specs.Lines.{AreLines, lines_of}
 use Rattle.formula_tree.specs.Formulas.{Form}
 use Rattle.formula_text.specs.declared.fault.TextFault.TheVariants as text
 use Rattle.formula_text.specs.Grammar.{Spells}

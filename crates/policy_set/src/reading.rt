@@ -1,7 +1,7 @@
 //! Reading of policies from files.
 
 ghost use Rattle.std.specs.Prelude.{◌≡◌, ◌≤◌, length, Ok, Err, IfOk, IfErr, MatchResult};
-ghost use Rattle.text_lines.specs.Lines.{lines_of};
+ghost use Rattle.text_tokens.specs.Lines.{lines_of};
 ghost use Rattle.formula_tree.specs.Views.{form_view};
 ghost use Rattle.policy_set.specs.Views.{IsPolicyForm};
 ghost use Rattle.policy_set.specs.PolicyText.{form_lines, line_form, policy_read, IsPolicyAnswer};
@@ -13,7 +13,7 @@ use crate::policy::Policy;
 use formula_text::{TextFault, read_form};
 use formula_tree::Form;
 use std::alloc::Global;
-use text_lines::{line_count, split_line};
+use text_tokens::{line_count, split_line};
 use word_ops::Profile;
 
 /// Returns the two lines of formulas. Errors: `Lines` and `Length`.

@@ -1,4 +1,5 @@
-//! The container format: code, invariants, lemmas and proof as bytes, read and written.
+//! The container format: header fields, code, invariants, lemmas and proof as bytes, read and
+//! written.
 //!
 //! The layers above use that `read` returns the contents that the bytes encode, or else the first
 //! error with its byte offset; that `write` returns the one encoding of its view's contents; how

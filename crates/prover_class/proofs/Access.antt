@@ -11,10 +11,10 @@ use Rattle.lf_signature.specs.Terms.{exp, pf, rd, wr}
 use Rattle.lf_signature.specs.Constants.{the_rules}
 use Rattle.formula_tree.specs.Formulas.{Exp, EVar, ELit, EOp, Form, FTrue, FFalse, FRel, FRd, FWr, FAnd, FOr, FImp, FAll, FAllm, shift_exp}
 use Rattle.formula_tree.specs.Variables.{PExp, subst_var_exp, subst_var}
-use Rattle.formula_terms.specs.Encoding.{form_encoding, exp_encoding}
+use Rattle.lf_terms.specs.Encoding.{form_encoding, exp_encoding}
 use Rattle.prover_class.proofs.Scope.{OverExp, Over, nesting}
 use Rattle.prover_class.proofs.Encoded.{splits_first, over_put_exp, over_put}
-use Rattle.formula_terms.specs.ProofTerms.{AForm, and_l, and_r, imp_e, all_e, move}
+use Rattle.lf_terms.specs.ProofTerms.{AForm, and_l, and_r, imp_e, all_e, move}
 use Rattle.prover_class.specs.Hypotheses.{Hyps, same_exp}
 use Rattle.prover_class.specs.NormalForms.{normal_form, equal_proof}
 use Rattle.prover_class.specs.Goals.{Prover, levels, by_words_alone}

@@ -12,10 +12,10 @@ use Rattle.word_ops.proofs.Bounds.{word_of-below}
 use Rattle.lf_signature.specs.Terms.{exp, pf, lit, rel_term}
 use Rattle.lf_signature.specs.Constants.{the_rules, size_of}
 use Rattle.formula_tree.specs.Formulas.{Exp, EVar, ELit, EOp, ESel, Form, FRel, EReg, ELeft}
-use Rattle.formula_terms.specs.Encoding.{exp_encoding, form_encoding}
+use Rattle.lf_terms.specs.Encoding.{exp_encoding, form_encoding}
 use Rattle.prover_class.proofs.Scope.{OverExp, has_operator}
 use Rattle.prover_class.proofs.Signatures.{later_rule, last_rule}
-use Rattle.formula_terms.specs.ProofTerms.{AExp, word_rule, move, swap, up, calc, fact}
+use Rattle.lf_terms.specs.ProofTerms.{AExp, word_rule, move, swap, up, calc, fact}
 use Rattle.prover_class.specs.Hypotheses.{Hyps, same_exp}
 use Rattle.prover_class.specs.Bounds.{WordBound, word_bound, least_bound, greatest_bound, max_word, folded, folded_below, fit_proof, upper_of, uppers, op_bounds, own_bounds, upper_bound, lower_of, lowers, zero_bound, difference_bound, part_lowers, lower_bound}
 use Rattle.prover_class.proofs.Proved.{Proves, IsHyp, AreHyps}

@@ -5,12 +5,12 @@ use Rattle.word_ops.specs.Operators.{op_constant}
 use Rattle.lf_signature.specs.Numbers.{rel_constant}
 use Rattle.lf_signature.specs.declared.WordSignature.{WordSignature}
 use Rattle.lf_signature.specs.Terms.{exp, mem, app1, app2, app3}
-use Rattle.lf_rules.specs.Plain.{plain_subst, plain_spot}
-use Rattle.lf_rules.proofs.Shifts.{spot-raise}
+use Rattle.lf_terms.specs.Plain.{plain_subst, plain_spot}
+use Rattle.lf_terms.proofs.Shifts.{spot-raise}
 use Rattle.formula_tree.specs.Formulas.{Exp, EVar, ELit, EOp, ESel, MemExp, MVar, MUpd, Form, FTrue, FFalse, FRel, FRd, FWr, FAnd, FOr, FImp, FAll, FAllm, shift_exp, shift_mem, shift_form, EReg, ELeft, MMem}
 use Rattle.formula_tree.specs.Variables.{PExp, exp_at, mem_at, subst_var_exp, subst_var_mem, subst_var}
-use Rattle.formula_terms.specs.Encoding.{exp_encoding, mem_encoding, form_encoding}
-use Rattle.formula_terms.proofs.Encoded.{shift-exp_encoding}
+use Rattle.lf_terms.specs.Encoding.{exp_encoding, mem_encoding, form_encoding}
+use Rattle.lf_terms.proofs.Encoded.{shift-exp_encoding}
 use Rattle.prover_class.proofs.Scope.{OverExp, OverMem, Over}
 
 pub shift-form_encoding : (A : Form) (k c : ℕ) → shift k c (form_encoding A) ≡ form_encoding (shift_form k c A)

@@ -8,9 +8,9 @@ use Rattle.word_ops.specs.declared.Rel.TheVariants.{Eq, Ult, Ule}
 use Rattle.lf_signature.specs.Terms.{exp, pf, lit, rel_term, op_term}
 use Rattle.lf_signature.specs.Constants.{the_rules, size_of}
 use Rattle.formula_tree.specs.Formulas.{Exp, EVar, ELit, EOp, Form, FRel}
-use Rattle.formula_terms.specs.Encoding.{exp_encoding, form_encoding}
+use Rattle.lf_terms.specs.Encoding.{exp_encoding, form_encoding}
 use Rattle.prover_class.proofs.Scope.{OverExp, Over}
-use Rattle.formula_terms.specs.ProofTerms.{AExp, word_rule, move, up, calc, fact, eq_refl}
+use Rattle.lf_terms.specs.ProofTerms.{AExp, word_rule, move, up, calc, fact, eq_refl}
 use Rattle.prover_class.specs.Hypotheses.{Hyps, find_hyp}
 use Rattle.prover_class.specs.Bounds.{WordBound, upper_bound, lower_bound}
 use Rattle.prover_class.specs.Goals.{first_of, aligned_form, masked, alignment_proof, by_aligned, ule_by, ult_by, by_bounds}
@@ -37,8 +37,8 @@ module _ (sig : WordSignature) (e d : ℕ) (room : e + (d + d + d) + 16 ≤ 2 ^ 
   Says A p = Proves sig (e + d) ctx (pf (form_encoding A)) p
 
   -- from (eq a x) to (eq a y) in a context c of the right side
-  pub move_eq : (a c x y : Exp) → OverExp sig a ctx → OverExp sig c (exp ∷ ctx) → OverExp sig x ctx → OverExp sig y ctx → (from to : Tree) → Rattle.lf_rules.specs.Plain.plain_subst (exp_encoding x) 0 (exp_encoding c) ≡ from →
-      Rattle.lf_rules.specs.Plain.plain_subst (exp_encoding y) 0 (exp_encoding c) ≡ to → (p q : Tree) → Says (FRel Eq x y) p → Proves sig (e + d) ctx (pf (rel_term Eq (exp_encoding a) from)) q →
+  pub move_eq : (a c x y : Exp) → OverExp sig a ctx → OverExp sig c (exp ∷ ctx) → OverExp sig x ctx → OverExp sig y ctx → (from to : Tree) → Rattle.lf_terms.specs.Plain.plain_subst (exp_encoding x) 0 (exp_encoding c) ≡ from →
+      Rattle.lf_terms.specs.Plain.plain_subst (exp_encoding y) 0 (exp_encoding c) ≡ to → (p q : Tree) → Says (FRel Eq x y) p → Proves sig (e + d) ctx (pf (rel_term Eq (exp_encoding a) from)) q →
       Proves sig (e + d) ctx (pf (rel_term Eq (exp_encoding a) to)) (move (FRel Eq (up a) c) x y p q)
   move_eq a c x y oa oc ox oy from to ef et p q hp hq =
       move_proves sig e d room ctx wide (FRel Eq (up a) c) x y (over-up sig a ctx exp oa, oc) some ox oy (rel_term Eq (exp_encoding a) from) (rel_term Eq (exp_encoding a) to) p q

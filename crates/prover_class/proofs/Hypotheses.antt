@@ -11,15 +11,15 @@ use Rattle.lf_signature.specs.Terms.{pf}
 use Rattle.lf_signature.specs.Typing.{atom_checks, var_synth}
 use Rattle.lf_signature.specs.Rules.{SPar, SLit, SOp, FPar, SAnd, SRel, SImp, SFalse}
 use Rattle.lf_signature.specs.Constants.{the_rules}
-use Rattle.lf_rules.specs.Plain.{var_bound}
-use Rattle.lf_rules.proofs.Room.{var_bound_shift}
-use Rattle.lf_rules.proofs.Shifts.{shift-more}
+use Rattle.lf_terms.specs.Plain.{var_bound}
+use Rattle.lf_terms.proofs.Room.{var_bound_shift}
+use Rattle.lf_terms.proofs.Shifts.{shift-more}
 use Rattle.formula_tree.specs.Formulas.{Exp, ELit, EOp, Form, FFalse, FRel, FAnd, FImp, shift_form}
-use Rattle.formula_terms.specs.Encoding.{form_encoding}
+use Rattle.lf_terms.specs.Encoding.{form_encoding}
 use Rattle.prover_class.proofs.Scope.{OverExp, Over, nesting}
 use Rattle.prover_class.proofs.Encoded.{shift-form_encoding, over_wider, wider_one}
 use Rattle.prover_class.proofs.Typed.{form_bound}
-use Rattle.formula_terms.specs.ProofTerms.{AExp, AForm, and_l, and_r, word_rule}
+use Rattle.lf_terms.specs.ProofTerms.{AExp, AForm, and_l, and_r, word_rule}
 use Rattle.prover_class.specs.Hypotheses.{Hyps, same_form, find_hyp, raised_hyps, compared, comparison, test_rule, other_hyps, test_hyps, tested_hyps, split_hyps, added, with_new}
 use Rattle.prover_class.proofs.Proved.{Proves, Stays, IsHyp, AreHyps}
 use Rattle.prover_class.proofs.Uses.{rule_stays, stays_now, nesting-shift}
@@ -65,9 +65,9 @@ module _ (sig : WordSignature) (e d : ℕ) (room : e + (d + d + d) + 16 ≤ 2 ^ 
   -- a hypothesis of the context
   var_stays : (k n : ℕ) (ctx : List Tree) → length ctx + k ≤ e → (a : Tree) → var_bound a ≤ e + d → var_bound (shift (suc n) 0 a) ≤ length ctx + d → suc n ≤ length ctx → at ctx n ≡ Some (pf a) → Stays sig (e + d) k ctx (shift (suc n) 0 a) (Var n)
   var_stays zero n ctx w a r s b q =
-      record { checks = atom_checks (var_synth q (Rattle.lf_rules.proofs.Room.fits_bound (pf (shift (suc n) 0 a)) (omega (arith, s, w, room)))) tt; room = omega (arith, w, b) }
+      record { checks = atom_checks (var_synth q (Rattle.lf_terms.proofs.Room.fits_bound (pf (shift (suc n) 0 a)) (omega (arith, s, w, room)))) tt; room = omega (arith, w, b) }
   var_stays (suc k) n ctx w a r s b q = (
-    record { checks = atom_checks (var_synth q (Rattle.lf_rules.proofs.Room.fits_bound (pf (shift (suc n) 0 a)) (omega (arith, s, w, room)))) tt; room = omega (arith, w, b) },
+    record { checks = atom_checks (var_synth q (Rattle.lf_terms.proofs.Room.fits_bound (pf (shift (suc n) 0 a)) (omega (arith, s, w, room)))) tt; room = omega (arith, w, b) },
     λ t.
         let m : shift 1 0 (shift (suc n) 0 a) ≡ shift (suc (suc n)) 0 a = shift-more a 0 (suc n) in
         let g : Stays sig (e + d) k (t ∷ ctx) (shift (suc (suc n)) 0 a) (Var (suc n)) =

@@ -9,9 +9,9 @@ use Rattle.lf_signature.specs.Constants.{size_of, declared}
 use Rattle.formula_tree.specs.Formulas.{Exp, EReg, ELeft, EVar, ELit, EOp, ESel, MemExp, MMem, MVar, MUpd, Form, FTrue, FFalse, FRel, FRd, FWr, FAnd, FOr, FImp, FAll, FAllm}
 use Rattle.formula_tree.specs.Scope.{VarSort, OfWord, OfMem, IsOverExp, IsOverMem, IsOver}
 use Rattle.formula_tree.specs.Sizes.{form_height}
-use Rattle.formula_terms.specs.Encoding.{form_encoding, var_types}
-use Rattle.formula_terms.proofs.Encoded.{at-word, at-mem}
-use Rattle.formula_terms.specs.ProofTerms.{tt_i, and_i}
+use Rattle.lf_terms.specs.Encoding.{form_encoding, var_types}
+use Rattle.lf_terms.proofs.Encoded.{at-word, at-mem}
+use Rattle.lf_terms.specs.ProofTerms.{tt_i, and_i}
 use Rattle.prover_class.specs.Parts.{conjoined, part_proof, condition_proof, refused_at, first_not_easy}
 use Rattle.prover_class.proofs.Scope.{OverExp, OverMem, Over, nesting}
 use Rattle.prover_class.proofs.Parts.{class_checks}

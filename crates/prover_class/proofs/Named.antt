@@ -14,16 +14,16 @@ use Rattle.lf_signature.specs.Typing.{Checks, lam_checks, atom_checks, con_synth
 use Rattle.lf_signature.specs.Constants.{declared, the_rules, is_word, calc_type, fact_type, op_in, op_count_of}
 use Rattle.lf_signature.specs.Laws.Booleans.{and_of}
 use Rattle.word_ops.proofs.EachOp.{op_of-op_number}
-use Rattle.lf_rules.specs.Plain.{plain_subst, plain_spot}
-use Rattle.lf_rules.proofs.Shifts.{spot-own, spot-under, spot-over, raise-under}
+use Rattle.lf_terms.specs.Plain.{plain_subst, plain_spot}
+use Rattle.lf_terms.proofs.Shifts.{spot-own, spot-under, spot-over, raise-under}
 use Rattle.formula_tree.specs.Formulas.{Exp, EVar, Form, FRel, FImp, FAll, FAllm, shift_form}
 use Rattle.formula_tree.specs.Variables.{PExp, subst_var}
-use Rattle.formula_terms.specs.Encoding.{exp_encoding, form_encoding}
+use Rattle.lf_terms.specs.Encoding.{exp_encoding, form_encoding}
 use Rattle.prover_class.proofs.Scope.{OverExp, Over, nesting, has_operator}
 use Rattle.prover_class.proofs.Signatures.{operator-below}
-use Rattle.formula_terms.proofs.Encoded.{shift-exp_encoding}
+use Rattle.lf_terms.proofs.Encoded.{shift-exp_encoding}
 use Rattle.prover_class.proofs.Encoded.{shift-form_encoding, plain_subst-shift, over_exp_wider, wider_one, subst-form_encoding, splits_first}
-use Rattle.formula_terms.specs.ProofTerms.{AExp, AForm, AAll, AAllm, imp_i, all_i, all_e, allm_i, eq_refl, move, up, swap, calc, fact}
+use Rattle.lf_terms.specs.ProofTerms.{AExp, AForm, AAll, AAllm, imp_i, all_i, all_e, allm_i, eq_refl, move, up, swap, calc, fact}
 use Rattle.prover_class.proofs.Proved.{Proves}
 use Rattle.prover_class.proofs.Uses.{rule_proves}
 use Rattle.lf_signature.specs.declared.WordSignature.{WordSignature}

@@ -10,14 +10,14 @@ use Rattle.word_ops.specs.Words.{word_of, test_of}
 use Rattle.word_ops.proofs.Bounds.{word_of-below}
 use Rattle.lf_signature.specs.Terms.{exp, pf, lit, op_term, rel_term}
 use Rattle.lf_signature.specs.Constants.{the_rules}
-use Rattle.lf_rules.proofs.Shifts.{spot-raise}
+use Rattle.lf_terms.proofs.Shifts.{spot-raise}
 use Rattle.formula_tree.specs.Formulas.{Exp, EVar, ELit, EOp, ESel, MemExp, MVar, MUpd, Form, FRel, shift_exp, shift_mem, EReg, ELeft, MMem}
 use Rattle.formula_tree.specs.Variables.{PExp, exp_at, mem_at, subst_var_exp, subst_var_mem}
-use Rattle.formula_terms.specs.Encoding.{exp_encoding, form_encoding}
+use Rattle.lf_terms.specs.Encoding.{exp_encoding, form_encoding}
 use Rattle.prover_class.proofs.Scope.{OverExp, Over, has_later, has_operator}
 use Rattle.prover_class.proofs.Signatures.{later_rule}
 use Rattle.prover_class.proofs.Encoded.{subst-exp_encoding, splits_first, over_put_exp}
-use Rattle.formula_terms.specs.ProofTerms.{AExp, word_rule, move, swap, up, calc, fact, eq_refl}
+use Rattle.lf_terms.specs.ProofTerms.{AExp, word_rule, move, swap, up, calc, fact, eq_refl}
 use Rattle.prover_class.specs.Hypotheses.{Hyps, same_exp}
 use Rattle.prover_class.specs.NormalForms.{Rewriting, whole_step, summand_key, swapped, turned, rewrite_defined, rewrite_at, in_left, in_right, first_nonempty, redex, Rewritten, rewritten, after_steps, continue_with, normalized, leaves, normal_form, equal_proof, words_proof, held_of_words, equal_forms}
 use Rattle.prover_class.specs.Bounds.{max_word}

@@ -6,9 +6,9 @@ use Rattle.lf_signature.specs.Terms.{pf}
 use Rattle.lf_signature.specs.Typing.{Checks}
 use Rattle.lf_signature.specs.Constants.{size_of, declared, the_rules}
 use Rattle.formula_tree.specs.Formulas.{Form, FTrue}
-use Rattle.formula_terms.specs.Encoding.{form_encoding}
+use Rattle.lf_terms.specs.Encoding.{form_encoding}
 use Rattle.prover_class.proofs.Scope.{Over, nesting}
-use Rattle.formula_terms.specs.ProofTerms.{AForm, and_i}
+use Rattle.lf_terms.specs.ProofTerms.{AForm, and_i}
 use Rattle.prover_class.specs.Goals.{first_of, levels, by_aligned, by_normal, by_bounds, by_words_alone}
 use Rattle.prover_class.specs.Parts.{conjoined, outside_part, part_proof, condition_proof}
 use Rattle.prover_class.proofs.Proved.{Proves}

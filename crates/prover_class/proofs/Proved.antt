@@ -5,10 +5,10 @@ use Rattle.lf_signature.specs.Typing.{Checks}
 use Rattle.lf_signature.specs.Constants.{declared}
 use Rattle.lf_signature.specs.Terms.{pf}
 use Rattle.lf_signature.specs.Rules.{Premise}
-use Rattle.lf_rules.specs.Plain.{var_bound}
-use Rattle.lf_rules.specs.Instance.{premise_with}
+use Rattle.lf_terms.specs.Plain.{var_bound}
+use Rattle.lf_terms.specs.Instance.{premise_with}
 use Rattle.formula_tree.specs.Formulas.{Form}
-use Rattle.formula_terms.specs.Encoding.{form_encoding}
+use Rattle.lf_terms.specs.Encoding.{form_encoding}
 use Rattle.prover_class.proofs.Scope.{Over, nesting}
 use Rattle.prover_class.specs.Hypotheses.{Hyps}
 use Rattle.lf_signature.specs.declared.WordSignature.{WordSignature}

@@ -6,7 +6,7 @@ use Rattle.word_ops.specs.declared.Op.TheVariants.{Sub}
 use Rattle.word_ops.specs.declared.Rel.TheVariants.{Eq, Ult, Ule}
 use Rattle.word_ops.specs.Words.{word_of}
 use Rattle.formula_tree.specs.Formulas.{Exp, EReg, ELeft, EVar, ELit, EOp, ESel, Form, FRel}
-use Rattle.formula_terms.specs.ProofTerms.{word_rule, move, up}
+use Rattle.lf_terms.specs.ProofTerms.{word_rule, move, up}
 use Rattle.prover_class.specs.Hypotheses.{Hyps, same_exp}
 use Rattle.prover_class.specs.Bounds.{WordBound, word_bound, lesser, greater, least_bound, greatest_bound, max_word, folded, upper_of, uppers, op_bounds, own_bounds, upper_bound, lower_of, lowers, zero_bound, part_lowers, lower_bound}
 use Rattle.prover_class.proofs.Repeats.{IsUse, fold_use}

@@ -5,7 +5,7 @@ use Rattle.term_table.specs.Subst.{bind}
 use Rattle.word_ops.specs.declared.Op.TheVariants.{Add, Band, Sll}
 use Rattle.word_ops.specs.declared.Rel.TheVariants.{Eq, Ult, Ule}
 use Rattle.formula_tree.specs.Formulas.{Exp, ELit, EOp, Form, FTrue, FFalse, FRel, FRd, FWr, FAnd, FOr, FImp, FAll, FAllm, shift_form}
-use Rattle.formula_terms.specs.ProofTerms.{ff_e, and_i, or_l, or_r, imp_i, all_i, allm_i, word_rule}
+use Rattle.lf_terms.specs.ProofTerms.{ff_e, and_i, or_l, or_r, imp_i, all_i, allm_i, word_rule}
 use Rattle.prover_class.specs.Hypotheses.{Hyps, find_hyp, raised_hyps, split_hyps, with_new}
 use Rattle.prover_class.specs.Goals.{first_of, absurdity, levels, Prover, by_shape, goal_proof, aligned_form, alignment_proof, by_aligned, ule_by, ult_by, by_bounds, by_normal, by_words_alone}
 use Rattle.prover_class.specs.Parts.{outside_part, part_proof}

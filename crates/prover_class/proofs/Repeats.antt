@@ -4,9 +4,9 @@ use Rattle.std.proofs.lemmas.List.{append-nil}
 use Rattle.term_table.specs.Tree.{Tree, shift}
 use Rattle.term_table.proofs.Equality.{tree_eq-true}
 use Rattle.formula_tree.specs.Formulas.{Form, FFalse, FImp, shift_form}
-use Rattle.formula_terms.specs.Encoding.{form_encoding}
-use Rattle.formula_terms.proofs.Encoded.{form_encoding-injective}
-use Rattle.formula_terms.specs.ProofTerms.{imp_e}
+use Rattle.lf_terms.specs.Encoding.{form_encoding}
+use Rattle.lf_terms.proofs.Encoded.{form_encoding-injective}
+use Rattle.lf_terms.specs.ProofTerms.{imp_e}
 use Rattle.prover_class.specs.Hypotheses.{Hyps, same_form, find_hyp, raised_hyps, added, with_new}
 use Rattle.prover_class.specs.Goals.{first_of, refute, refuted, absurdity}
 

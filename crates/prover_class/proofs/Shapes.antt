@@ -6,10 +6,10 @@ use Rattle.term_table.proofs.Options.{bind_some, map_some, some_injective}
 use Rattle.lf_signature.specs.Terms.{exp, mem, pf, falsity}
 use Rattle.lf_signature.specs.Constants.{the_rules}
 use Rattle.formula_tree.specs.Formulas.{Form, FTrue, FFalse, FRel, FRd, FWr, FAnd, FOr, FImp, FAll, FAllm, shift_form}
-use Rattle.formula_terms.specs.Encoding.{form_encoding}
+use Rattle.lf_terms.specs.Encoding.{form_encoding}
 use Rattle.prover_class.proofs.Scope.{Over, nesting}
 use Rattle.prover_class.proofs.Encoded.{over_wider, wider_one}
-use Rattle.formula_terms.specs.ProofTerms.{AForm, tt_i, ff_e, and_i, or_l, or_r, imp_i, imp_e, all_i, allm_i}
+use Rattle.lf_terms.specs.ProofTerms.{AForm, tt_i, ff_e, and_i, or_l, or_r, imp_i, imp_e, all_i, allm_i}
 use Rattle.prover_class.specs.Hypotheses.{Hyps, find_hyp, raised_hyps, split_hyps, with_new}
 use Rattle.prover_class.specs.Goals.{first_of, refute, refuted, absurdity, Prover, by_shape, goal_proof}
 use Rattle.prover_class.proofs.Proved.{Proves, IsHyp, AreHyps}

@@ -10,11 +10,11 @@ use Rattle.lf_signature.specs.Rules.{OfExp, OfMem, OfForm, OfExpForm, OfMemForm}
 use Rattle.lf_signature.specs.Constants.{constant_types, the_rules, declared}
 use Rattle.lf_signature.specs.Typing.{Checks, lam_checks, atom_checks, var_synth, con_synth, app_synth}
 use Rattle.lf_signature.specs.Laws.Numbered.{declared-rel}
-use Rattle.lf_rules.specs.Plain.{var_bound, binder_depth}
-use Rattle.lf_rules.specs.Instance.{IsArgument}
-use Rattle.lf_rules.proofs.Room.{fits_shift, var_bound_shift}
+use Rattle.lf_terms.specs.Plain.{var_bound, binder_depth}
+use Rattle.lf_terms.specs.Instance.{IsArgument}
+use Rattle.lf_terms.proofs.Room.{fits_shift, var_bound_shift}
 use Rattle.formula_tree.specs.Formulas.{Exp, EVar, ELit, EOp, ESel, MemExp, MVar, MUpd, Form, FTrue, FFalse, FRel, FRd, FWr, FAnd, FOr, FImp, FAll, FAllm, EReg, ELeft, MMem}
-use Rattle.formula_terms.specs.Encoding.{exp_encoding, mem_encoding, form_encoding}
+use Rattle.lf_terms.specs.Encoding.{exp_encoding, mem_encoding, form_encoding}
 use Rattle.prover_class.proofs.Scope.{OverExp, OverMem, Over, nesting}
 use Rattle.prover_class.proofs.Signatures.{operator-declared}
 use Rattle.lf_signature.specs.declared.WordSignature.{WordSignature}

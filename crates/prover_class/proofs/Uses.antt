@@ -7,16 +7,16 @@ use Rattle.lf_signature.specs.Constants.{declared, rule_at}
 use Rattle.lf_signature.specs.declared.WordSignature.{WordSignature}
 use Rattle.lf_signature.specs.Laws.Booleans.{both, cond_is}
 use Rattle.lf_signature.proofs.Lookup.{declared-rule}
-use Rattle.lf_rules.specs.Plain.{var_bound}
-use Rattle.lf_rules.specs.Instance.{nth_arg, exp_with, mem_with, form_with, IsArgument, AreArguments, AreProofs}
-use Rattle.lf_rules.proofs.Use.{rule_checks}
+use Rattle.lf_terms.specs.Plain.{var_bound}
+use Rattle.lf_terms.specs.Instance.{nth_arg, exp_with, mem_with, form_with, IsArgument, AreArguments, AreProofs}
+use Rattle.lf_terms.proofs.Use.{rule_checks}
 use Rattle.formula_tree.specs.Formulas.{Form, shift_exp, shift_mem, shift_form}
 use Rattle.prover_class.proofs.Scope.{nesting, Serves, AllServe}
 use Rattle.prover_class.proofs.Signatures.{has_rule, rule_of, rule-below}
-use Rattle.formula_terms.proofs.Encoded.{shift-exp_encoding, shift-mem_encoding}
+use Rattle.lf_terms.proofs.Encoded.{shift-exp_encoding, shift-mem_encoding}
 use Rattle.prover_class.proofs.Encoded.{shift-form_encoding, over_wider, over_exp_wider, over_mem_wider, wider_one}
 use Rattle.prover_class.proofs.Typed.{exp_argument, mem_argument, form_argument, all_argument, allm_argument, exp_bound, mem_bound, form_bound}
-use Rattle.formula_terms.specs.ProofTerms.{Argument, AExp, AMem, AForm, AAll, AAllm, arg_encoding, args_encoding, rule_proof}
+use Rattle.lf_terms.specs.ProofTerms.{Argument, AExp, AMem, AForm, AAll, AAllm, arg_encoding, args_encoding, rule_proof}
 use Rattle.prover_class.proofs.Proved.{Proves, AllProve, Stays}
 
 -- contexts have at most e entries, and terms at most d binders in one another

@@ -7,7 +7,7 @@ use Rattle.word_ops.specs.declared.Op.TheVariants.{Add, Sub, Sll, Srl}
 use Rattle.word_ops.specs.Words.{word_of}
 use Rattle.formula_tree.specs.Formulas.{Exp, EReg, ELeft, EVar, ELit, EOp, ESel, MemExp, MMem, MVar, MUpd, Form, FRd, FWr, FAnd, FImp, FAll}
 use Rattle.formula_tree.specs.Variables.{PExp, subst_var_exp, subst_var}
-use Rattle.formula_terms.specs.ProofTerms.{and_l, and_r, imp_e, all_e, move}
+use Rattle.lf_terms.specs.ProofTerms.{and_l, and_r, imp_e, all_e, move}
 use Rattle.prover_class.specs.Hypotheses.{Hyps, same_exp}
 use Rattle.prover_class.specs.NormalForms.{normal_form, equal_proof}
 use Rattle.prover_class.specs.Goals.{first_of, Prover, levels, goal_proof, by_words_alone}

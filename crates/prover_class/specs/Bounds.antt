@@ -6,7 +6,7 @@ use Rattle.word_ops.specs.declared.Op.TheVariants.{Add, Sub, Band, Sll, Srl, Cmp
 use Rattle.word_ops.specs.declared.Rel.TheVariants.{Eq, Ult, Ule}
 use Rattle.word_ops.specs.Words.{word_of}
 use Rattle.formula_tree.specs.Formulas.{Exp, EReg, ELeft, EVar, ELit, EOp, ESel, Form, FRel}
-use Rattle.formula_terms.specs.ProofTerms.{word_rule, move, swap, up, calc, fact}
+use Rattle.lf_terms.specs.ProofTerms.{word_rule, move, swap, up, calc, fact}
 use Rattle.prover_class.specs.Hypotheses.{Hyps, same_exp}
 
 -- a word, and a proof that it is a bound

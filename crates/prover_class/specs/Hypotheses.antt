@@ -7,8 +7,8 @@ use Rattle.word_ops.specs.declared.Op.TheVariants.{Cmpeq, Cmplt, Cmple, Cmpult, 
 use Rattle.word_ops.specs.declared.Rel.{Rel}
 use Rattle.word_ops.specs.declared.Rel.TheVariants.{Eq, Ult, Ule, Slt, Sle}
 use Rattle.formula_tree.specs.Formulas.{Exp, ELit, EOp, Form, FFalse, FRel, FAnd, FImp, shift_form}
-use Rattle.formula_terms.specs.Encoding.{form_encoding, exp_encoding}
-use Rattle.formula_terms.specs.ProofTerms.{and_l, and_r, word_rule}
+use Rattle.lf_terms.specs.Encoding.{form_encoding, exp_encoding}
+use Rattle.lf_terms.specs.ProofTerms.{and_l, and_r, word_rule}
 
 -- hypotheses, each with its proof
 abbrev pub Hyps : Type 0

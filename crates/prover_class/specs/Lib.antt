@@ -1,4 +1,4 @@
-pub use Rattle.formula_terms.specs.ProofTerms
+pub use Rattle.lf_terms.specs.ProofTerms
 pub mod Hypotheses
 pub mod Bounds
 pub mod NormalForms

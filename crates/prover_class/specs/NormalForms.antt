@@ -8,7 +8,7 @@ use Rattle.word_ops.specs.declared.Rel.TheVariants.{Eq}
 use Rattle.word_ops.specs.Words.{word_of, test_of}
 use Rattle.formula_tree.specs.Formulas.{Exp, EReg, ELeft, EVar, ELit, EOp, ESel, FRel}
 use Rattle.formula_tree.specs.Variables.{PExp, subst_var_exp}
-use Rattle.formula_terms.specs.ProofTerms.{word_rule, move, swap, up, eq_refl, calc, fact}
+use Rattle.lf_terms.specs.ProofTerms.{word_rule, move, swap, up, eq_refl, calc, fact}
 use Rattle.prover_class.specs.Hypotheses.{same_exp}
 use Rattle.prover_class.specs.Bounds.{max_word}
 

@@ -7,7 +7,7 @@ use Rattle.std.specs.Option.{option_map}
 use Rattle.term_table.specs.Tree.{Tree}
 use Rattle.term_table.specs.Subst.{bind}
 use Rattle.formula_tree.specs.Formulas.{Form, FTrue, FAnd}
-use Rattle.formula_terms.specs.ProofTerms.{tt_i, and_i}
+use Rattle.lf_terms.specs.ProofTerms.{tt_i, and_i}
 use Rattle.prover_class.specs.Goals.{levels, goal_proof}
 use Rattle.prover_class.specs.Access.{by_all_means}
 

@@ -3,7 +3,7 @@ use Rattle.std.specs.Prelude.{ℕ, zero, suc, Bool, Option, None, [], ◌++◌}
 use Rattle.std.specs.Option.{option_map}
 use Rattle.term_table.specs.Tree.{Tree, Var}
 use Rattle.formula_tree.specs.Formulas.{Form, FImp, shift_form}
-use Rattle.formula_terms.specs.ProofTerms.{ff_e, imp_i}
+use Rattle.lf_terms.specs.ProofTerms.{ff_e, imp_i}
 use Rattle.prover_class.specs.Hypotheses.{Hyps, find_hyp, raised_hyps, split_hyps}
 use Rattle.prover_class.specs.Goals.{first_of, absurdity, levels, Prover, by_shape, by_words_alone}
 use Rattle.prover_class.specs.Access.{by_access}

@@ -7,9 +7,9 @@
 //! or by bounds (`specs/Bounds`). If it is the right to load or store, it is proved by a hypothesis
 //! that gives it (`specs/Access`). Hypotheses are split as they are added (`specs/Hypotheses`).
 //!
-//! All these are functions on formulas, which return the proof as a term (`formula_terms`); they
+//! All these are functions on formulas, which return the proof as a term (`lf_terms`); they
 //! are this project's own. `class_laws` says that the term is a proof; `repeat_laws` says that
-//! repeated hypotheses would change no proof. `class_rows` compares the proofs with those of
+//! repeated hypotheses would change no proof. `test_class` compares the proofs with those of
 //! another implementation.
 #![tactic(auto)]
 

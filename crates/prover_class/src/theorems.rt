@@ -8,7 +8,7 @@ ghost use Rattle.lf_signature.specs.Constants.{size_of, declared};
 ghost use Rattle.formula_tree.specs.Formulas.{Form};
 ghost use Rattle.formula_tree.specs.Scope.{IsOver};
 ghost use Rattle.formula_tree.specs.Sizes.{form_height};
-ghost use Rattle.formula_terms.specs.Encoding.{form_encoding};
+ghost use Rattle.lf_terms.specs.Encoding.{form_encoding};
 ghost use Rattle.prover_class.specs.Parts.{conjoined, part_proof, condition_proof, first_not_easy};
 ghost use Rattle.prover_class.specs.Hypotheses.{with_new};
 ghost use Rattle.prover_class.specs.Repeats.{part_proof_adding, with_repeats};

@@ -11,7 +11,7 @@ use Rattle.alpha_cfg.specs.declared.outcome.Outcome.TheVariants as outcomes
 use Rattle.vcgen.specs.Safety.{IsReturn, steps_after}
 use Rattle.host_steps.specs.declared.ended.Ended.{Ended}
 use Rattle.host_steps.specs.declared.ended.Ended.TheVariants as ended
-use Rattle.part_runs.proofs.Counted.{steps_after-none, steps_after-more, rest-after}
+use Rattle.host_steps.proofs.Counted.{steps_after-none, steps_after-more, rest-after}
 use Rattle.safe_host.specs.Hosts.{HostView, state_under, RightsFit, FitWhileLeft}
 use Rattle.safe_host.specs.Runs.{IsRun, outcome_of, goes_on_after}
 use Rattle.safe_host.specs.Counts.{steps_behind, steps_of, MakesSteps}

@@ -22,9 +22,9 @@ use Rattle.safe_host.specs.Hosts.{HostView, shown_formulas, shown_code, state_un
 use Rattle.safe_host.specs.Inside.Fields.{HasRightsBefore}
 use Rattle.safe_host.specs.Runs.{IsRun, outcome_of, goes_on_after}
 use Rattle.host_steps.specs.Stepping.{arena_state, EndsUnblocked}
-use Rattle.part_runs.specs.Parts.{PartView, PartFits, IsPartRun, IsPartRunUnder, ReturnedInBound}
-use Rattle.part_runs.proofs.Counted.{returned-in-bound}
-use Rattle.part_runs.proofs.Fitting.{start-part-fits, part-unblocked, part-left, part-run, part-unwritten}
+use Rattle.host_steps.specs.Parts.{PartView, PartFits, IsPartRun, IsPartRunUnder, ReturnedInBound}
+use Rattle.host_steps.proofs.Counted.{returned-in-bound}
+use Rattle.host_steps.proofs.Fitting.{start-part-fits, part-unblocked, part-left, part-run, part-unwritten}
 
 -- a host as a part of an arena
 abbrev part_of : HostView → PartView

@@ -5,7 +5,7 @@ ghost use Rattle.reference_machine.specs.declared.layout.TheConstants.{ARENA};
 ghost use Rattle.reference_machine.specs.Arena.{sum_of, map_of};
 ghost use Rattle.packet_store.specs.declared.reader.TheConstants.{MAX_PACKET};
 ghost use Rattle.packet_store.specs.PolicyStarts.{start_of};
-ghost use Rattle.part_runs.specs.Parts.{ReturnedInBound};
+ghost use Rattle.host_steps.specs.Parts.{ReturnedInBound};
 ghost use Rattle.safe_host.specs.Hosts.{HasRights, FitWhileLeft};
 ghost use Rattle.safe_host.specs.Counts.{MakesSteps};
 ghost use Rattle.safe_host.specs.Runs.{Loads, IsRun, goes_on_after};

@@ -4,3 +4,4 @@ pub mod Registers
 pub mod Numbers
 pub mod Answers
 pub mod Inside
+pub mod Lines

@@ -7,7 +7,7 @@
 //! in `specs/Safety`.
 //!
 //! The walk over code that builds the condition uses terms for the machine's variables (`Symbols`)
-//! and the effect of each instruction on them (`effect_at`, `counted_step`). `condition_match`,
+//! and the effect of each instruction on them (`effect_at`, `counted_step`). `gate_match`,
 //! which compares a formula with the condition, uses these too. The walk on trees is
 //! `specs/WalkTree`, its terms on ids `specs/Symbols`. Source: Necula, Proof-Carrying Code, POPL
 //! 1997; Necula and Lee, Safe Kernel Extensions Without Run-Time Checking, OSDI 1996.

@@ -2,11 +2,11 @@
 use Rattle.std.proofs.Common.{◌≡◌, true≢false, ℕ, ◌≤◌, false, List, [], ◌∷◌, ◌++◌, length, None, Some, refl, sym, ap, ◌∙◌, subst, is_some, arith}
 use Rattle.file_port.specs.Events.{Given, whole, missing, too_long, failed, no_memory, Event, was_read, was_written, was_put}
 use Rattle.file_port.specs.Files.{FilesState}
-use Rattle.pcc_exit.specs.Exits.{Exit}
-use Rattle.pcc_exit.specs.Requests.{Texts, missing_exit, read_fault_exit, no_memory_exit}
-use Rattle.pcc_exit.specs.Stages.{Stage, stops, gives, reads, went_on, Follows}
-use Rattle.pcc_exit.specs.Runs.{Effect, AreOctets, Happens, Comes, stopped, printed, wrote, done_exit}
-use Rattle.pcc_exit.proofs.RunLemmas.{is_read}
+use Rattle.pcc_stages.specs.Exits.{Exit}
+use Rattle.pcc_stages.specs.Requests.{Texts, missing_exit, read_fault_exit, no_memory_exit}
+use Rattle.pcc_stages.specs.Stage.{Stage, stops, gives, reads, went_on, Follows}
+use Rattle.pcc_stages.specs.Runs.{Effect, AreOctets, Happens, Comes, stopped, printed, wrote, done_exit}
+use Rattle.pcc_stages.proofs.RunLemmas.{is_read}
 
 module _ (texts : Texts) where
   -- P holds of each exit that the stage may come to, with the reads that it asks for on the way; it

@@ -4,11 +4,11 @@ use Rattle.alpha_words.specs.declared.insn.Insn.{Insn}
 use Rattle.policy_set.specs.Views.{PolicyView}
 use Rattle.proof_container.specs.Contents.{Contents}
 use Rattle.proof_container.specs.Decoding.{decoded_container}
-use Rattle.container_listing.specs.Listing.{listing_text}
-use Rattle.goal_listing.specs.Listing.{goals_of_bytes}
-use Rattle.pcc_exit.specs.Exits.{Exit}
-use Rattle.pcc_exit.specs.Runs.{done_exit}
-use Rattle.pcc_exit.specs.Stages.{Stage, gives, ◌>>=◌}
+use Rattle.view_container.specs.Listing.{listing_text}
+use Rattle.view_goal_text.specs.Listing.{goals_of_bytes}
+use Rattle.pcc_stages.specs.Exits.{Exit}
+use Rattle.pcc_stages.specs.Runs.{done_exit}
+use Rattle.pcc_stages.specs.Stage.{Stage, gives, ◌>>=◌}
 use Rattle.pcc_stages.specs.Stages.Containers.{container_bytes_of, code_of}
 use Rattle.pcc_stages.specs.Stages.Packets.{packets_of}
 use Rattle.view_cli.specs.Commands.Goals.{goals_found}

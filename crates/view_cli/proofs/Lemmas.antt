@@ -15,11 +15,11 @@ use Rattle.proof_container.specs.Decoding.{Fault, decoded_container}
 use Rattle.proof_container.specs.Versions.{IsVersion, IsBoundOf}
 use Rattle.proof_container.specs.declared.limits.TheConstants.{MAX_BYTES}
 use Rattle.term_table.specs.Steps.{◌>>=◌}
-use Rattle.container_listing.specs.declared.stop.ListFault.{ListFault}
-use Rattle.container_listing.specs.declared.stop.ListFault.TheVariants.{TooLong}
-use Rattle.container_listing.specs.Listing.{listing_text, if_read, listing_of}
+use Rattle.view_container.specs.declared.stop.ListFault.{ListFault}
+use Rattle.view_container.specs.declared.stop.ListFault.TheVariants.{TooLong}
+use Rattle.view_container.specs.Listing.{listing_text, if_read, listing_of}
 use Rattle.pcc_words.specs.Commands.{IsVersionOf}
-use Rattle.pcc_exit.specs.Stages.{gives}
+use Rattle.pcc_stages.specs.Stage.{gives}
 use Rattle.view_cli.specs.Commands.List.{lines_found}
 
 -- ---- packets

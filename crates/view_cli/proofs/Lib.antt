@@ -5,3 +5,4 @@ mod PureStages
 mod CommandStages
 mod Suited
 mod Shown
+pub mod Reading

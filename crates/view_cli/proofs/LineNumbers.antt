@@ -3,12 +3,12 @@ use Rattle.std.proofs.Common.{◌≡◌, ℕ, zero, suc, ◌+◌, ◌<◌, ◌�
 use Rattle.std.proofs.lemmas.List.{length-append}
 use Rattle.std.proofs.lemmas.Option.{none-some, same_Some}
 use Rattle.word_ops.specs.declared.Profile.{Profile}
-use Rattle.text_lines.specs.Lines.{AreLines, none, last, by_lf, by_crlf}
+use Rattle.text_tokens.specs.Lines.{AreLines, none, last, by_lf, by_crlf}
 use Rattle.asm_text.specs.Insns.{SourceInsn}
 use Rattle.asm_text.specs.Statements.{Statement, NoStatement, AnInsn, AnInv, Content}
 use Rattle.asm_text.specs.Sources.{Source, AreSpelled, insns_from, add_insn, SpellsSource}
 use Rattle.asm_text.specs.declared.limits.TheConstants.{MAX_SOURCE}
-use Rattle.container_listing.specs.Laws.{AreLineNumbers}
+use Rattle.view_container.specs.Laws.{AreLineNumbers}
 
 -- a text has at most as many lines as bytes
 few_lines : {text : List ℕ} {ls : List (List ℕ)} → AreLines text ls → length ls ≤ length text

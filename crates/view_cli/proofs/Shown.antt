@@ -44,38 +44,38 @@ use Rattle.vcgen.specs.Encoded.{annotated}
 use Rattle.pcc_gate.specs.First.{formulas, front_refusal, lemma_refusal}
 use Rattle.pcc_gate.specs.declared.refusal.Refusal.{Refusal}
 use Rattle.prover_class.specs.Parts.{condition_proof}
-use Rattle.condition_prover.specs.Conditions.{condition_parts}
+use Rattle.prover_conditions.specs.Conditions.{condition_parts}
 use Rattle.bounds_prover.specs.declared.fault.ProveFault.TheVariants.{NotEasy}
 use Rattle.bounds_prover.specs.Proving.{made_unless, proved_read, proved_code, with_parts_proof, proved_contents, proved_container}
-use Rattle.container_listing.specs.Laws.{AreLineNumbers, IsListedSource}
-use Rattle.container_listing.specs.Listing.{listing_text}
-use Rattle.container_listing.specs.Sources.{source_listing}
-use Rattle.goal_listing.specs.Laws.{NamesFirst}
-use Rattle.goal_listing.specs.Lines.{last_line}
-use Rattle.goal_listing.specs.Texts.{lines_text}
-use Rattle.goal_listing.specs.Listing.{goal_parts, parts_lines, goals_text, goals_of_code, goals_read, listed_unless, goals_of_bytes}
-use Rattle.packet_trace.specs.Traces.{trace_from, packet_text}
-use Rattle.fault_marks.specs.FormReports.{without_lf, form_line, form_fault_text, report_of_form, formula_report}
-use Rattle.fault_marks.specs.Laws.{IsTokenFlaw}
-use Rattle.fault_marks.specs.Marking.{Span, marked_line}
-use Rattle.fault_marks.specs.SourceLines.{numbered_line}
-use Rattle.fault_marks.specs.SourceReports.{source_line, source_fault_line, source_fault_text, fault_lines, report_of_code, report_of_source, source_report}
-use Rattle.fault_marks.specs.Spans.{flaw_span, asm_flaw_span}
+use Rattle.view_container.specs.Laws.{AreLineNumbers, IsListedSource}
+use Rattle.view_container.specs.Listing.{listing_text}
+use Rattle.view_container.specs.Sources.{source_listing}
+use Rattle.view_goal_text.specs.Laws.{NamesFirst}
+use Rattle.view_goal_text.specs.Lines.{last_line}
+use Rattle.view_goal_text.specs.Texts.{lines_text}
+use Rattle.view_goal_text.specs.Listing.{goal_parts, parts_lines, goals_text, goals_of_code, goals_read, listed_unless, goals_of_bytes}
+use Rattle.view_trace.specs.Traces.{trace_from, packet_text}
+use Rattle.view_faults.specs.FormReports.{without_lf, form_line, form_fault_text, report_of_form, formula_report}
+use Rattle.view_faults.specs.Laws.{IsTokenFlaw}
+use Rattle.view_faults.specs.Marking.{Span, marked_line}
+use Rattle.view_faults.specs.SourceLines.{numbered_line}
+use Rattle.view_faults.specs.SourceReports.{source_line, source_fault_line, source_fault_text, fault_lines, report_of_code, report_of_source, source_report}
+use Rattle.view_faults.specs.Spans.{flaw_span, asm_flaw_span}
 use Rattle.pcc_words.specs.Invocations.{PolicyWord, named, from_file}
 use Rattle.pcc_lines.specs.Fixed.{container_too_long_line, packets_too_long_line, policy_too_long_line, source_too_long_line}
 use Rattle.pcc_lines.specs.Results.{result_line, result_lines}
-use Rattle.pcc_exit.specs.Exits.{Exit}
-use Rattle.pcc_exit.specs.Requests.{usage_exit, missing_exit, read_fault_exit, no_memory_exit}
-use Rattle.pcc_exit.specs.Stages.{Stage, stops, gives, reads, ◌>>=◌}
-use Rattle.pcc_exit.specs.Runs.{Effect, AreOctets, Happens, EndsRun, decided, out_of_memory, Runs, done_exit}
-use Rattle.pcc_exit.proofs.RunLemmas.{is_stop, follows_stop}
+use Rattle.pcc_stages.specs.Exits.{Exit}
+use Rattle.pcc_stages.specs.Requests.{usage_exit, missing_exit, read_fault_exit, no_memory_exit}
+use Rattle.pcc_stages.specs.Stage.{Stage, stops, gives, reads, ◌>>=◌}
+use Rattle.pcc_stages.specs.Runs.{Effect, AreOctets, Happens, EndsRun, decided, out_of_memory, Runs, done_exit}
+use Rattle.pcc_stages.proofs.RunLemmas.{is_stop, follows_stop}
 use Rattle.pcc_stages.specs.declared.files.TheConstants.{MAX_FILE, MAX_POLICY_FILE}
 use Rattle.pcc_stages.specs.Stages.Common.{refused, policy_found, ending}
 use Rattle.pcc_stages.specs.Stages.Containers.{code_in, code_of}
 use Rattle.pcc_stages.specs.Stages.Packets.{packets_found, packets_in, packets_of}
 use Rattle.pcc_stages.specs.Stages.Policies.{policy_spelled, policy_in, policy_from, policy_told}
-use Rattle.view_words.specs.Invocations.{ViewInvocation}
-use Rattle.view_words.specs.Invocations as views
+use Rattle.view_cli.specs.Invocations.{ViewInvocation}
+use Rattle.view_cli.specs.Invocations as views
 use Rattle.view_cli.specs.Texts.{view_texts, formula_too_long_line}
 use Rattle.view_cli.specs.declared.limits.TheConstants.{MAX_FORMULA}
 use Rattle.view_cli.specs.Commands.Faults.{told_exit, formula_command, source_command}

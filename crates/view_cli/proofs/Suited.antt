@@ -18,23 +18,23 @@ use Rattle.proof_container.specs.Contents.{Contents}
 use Rattle.proof_container.specs.Decoding.{decoded_container}
 use Rattle.proof_container.specs.Versions.{profile_of}
 use Rattle.pcc_gate.specs.declared.refusal.Refusal.{Refusal}
-use Rattle.goal_listing.specs.Listing.{goals_of_bytes}
-use Rattle.fault_marks.specs.FormReports.{without_lf, form_fault_line, form_fault_text, report_of_form, formula_report}
-use Rattle.fault_marks.specs.SourceReports.{source_fault_line, report_of_code, report_of_source, source_report}
+use Rattle.view_goal_text.specs.Listing.{goals_of_bytes}
+use Rattle.view_faults.specs.FormReports.{without_lf, form_fault_line, form_fault_text, report_of_form, formula_report}
+use Rattle.view_faults.specs.SourceReports.{source_fault_line, report_of_code, report_of_source, source_report}
 use Rattle.pcc_words.specs.Invocations.{named, from_file}
 use Rattle.pcc_lines.specs.Fixed.{container_too_long_line, packets_too_long_line, policy_too_long_line, source_too_long_line, unknown_policy_line}
 use Rattle.pcc_lines.specs.Refusals.{refusal_line}
-use Rattle.pcc_exit.specs.Exits.{Exit}
-use Rattle.pcc_exit.specs.Requests.{command, no_memory_exit}
-use Rattle.pcc_exit.specs.Stages.{Stage, stops, gives, reads, ◌>>=◌}
-use Rattle.pcc_exit.specs.Runs.{Effect, IsStop, IsSuited}
+use Rattle.pcc_stages.specs.Exits.{Exit}
+use Rattle.pcc_stages.specs.Requests.{command, no_memory_exit}
+use Rattle.pcc_stages.specs.Stage.{Stage, stops, gives, reads, ◌>>=◌}
+use Rattle.pcc_stages.specs.Runs.{Effect, IsStop, IsSuited}
 use Rattle.pcc_stages.specs.declared.files.TheConstants.{MAX_FILE, MAX_POLICY_FILE}
 use Rattle.pcc_stages.specs.Stages.Common.{refused, policy_found, ending}
 use Rattle.pcc_stages.specs.Stages.Containers.{code_in, code_of}
 use Rattle.pcc_stages.specs.Stages.Packets.{packets_in, packets_of}
 use Rattle.pcc_stages.specs.Stages.Policies.{policy_in, policy_from}
-use Rattle.view_words.specs.Invocations.{ViewInvocation}
-use Rattle.view_words.specs.Invocations as views
+use Rattle.view_cli.specs.Invocations.{ViewInvocation}
+use Rattle.view_cli.specs.Invocations as views
 use Rattle.view_cli.specs.Texts.{view_texts, formula_too_long_line, absent_packet_line}
 use Rattle.view_cli.specs.declared.limits.TheConstants.{MAX_FORMULA}
 use Rattle.view_cli.specs.Commands.Faults.{told_exit, formula_command, source_command}

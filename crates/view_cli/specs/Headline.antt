@@ -29,33 +29,33 @@ use Rattle.proof_container.specs.Decoding.{decoded_container}
 use Rattle.proof_container.specs.Versions.{profile_of}
 use Rattle.pcc_gate.specs.First.{lemma_refusal}
 use Rattle.prover_class.specs.Parts.{first_not_easy}
-use Rattle.condition_prover.specs.Conditions.{condition_parts}
+use Rattle.prover_conditions.specs.Conditions.{condition_parts}
 use Rattle.bounds_prover.specs.declared.fault.ProveFault.TheVariants.{NotEasy}
 use Rattle.bounds_prover.specs.Proving.{proved_container}
-use Rattle.container_listing.specs.Laws.{IsListedSource}
-use Rattle.container_listing.specs.Listing.{listing_text}
-use Rattle.container_listing.specs.Sources.{source_listing}
-use Rattle.goal_listing.specs.Lines.{last_line}
-use Rattle.goal_listing.specs.Listing.{goals_text, goals_of_bytes}
-use Rattle.packet_trace.specs.Traces.{packet_text}
-use Rattle.fault_marks.specs.FormReports.{without_lf, form_line, form_fault_text}
-use Rattle.fault_marks.specs.Laws.{IsTokenFlaw}
-use Rattle.fault_marks.specs.Marking.{Span, marked_line}
-use Rattle.fault_marks.specs.SourceLines.{numbered_line}
-use Rattle.fault_marks.specs.SourceReports.{source_line, source_fault_line, source_fault_text}
-use Rattle.fault_marks.specs.Spans.{flaw_span, asm_flaw_span}
+use Rattle.view_container.specs.Laws.{IsListedSource}
+use Rattle.view_container.specs.Listing.{listing_text}
+use Rattle.view_container.specs.Sources.{source_listing}
+use Rattle.view_goal_text.specs.Lines.{last_line}
+use Rattle.view_goal_text.specs.Listing.{goals_text, goals_of_bytes}
+use Rattle.view_trace.specs.Traces.{packet_text}
+use Rattle.view_faults.specs.FormReports.{without_lf, form_line, form_fault_text}
+use Rattle.view_faults.specs.Laws.{IsTokenFlaw}
+use Rattle.view_faults.specs.Marking.{Span, marked_line}
+use Rattle.view_faults.specs.SourceLines.{numbered_line}
+use Rattle.view_faults.specs.SourceReports.{source_line, source_fault_line, source_fault_text}
+use Rattle.view_faults.specs.Spans.{flaw_span, asm_flaw_span}
 use Rattle.pcc_words.specs.Invocations.{PolicyWord, named, from_file}
 use Rattle.pcc_lines.specs.Fixed.{source_too_long_line}
 use Rattle.pcc_lines.specs.Results.{result_line, result_lines}
-use Rattle.pcc_exit.specs.Exits.{Exit}
-use Rattle.pcc_exit.specs.Requests.{missing_exit, read_fault_exit, no_memory_exit}
-use Rattle.pcc_exit.specs.Runs.{NoneFailed, Prints, done_exit}
-use Rattle.pcc_exit.specs.Stages.{gives}
+use Rattle.pcc_stages.specs.Exits.{Exit}
+use Rattle.pcc_stages.specs.Requests.{missing_exit, read_fault_exit, no_memory_exit}
+use Rattle.pcc_stages.specs.Runs.{NoneFailed, Prints, done_exit}
+use Rattle.pcc_stages.specs.Stage.{gives}
 use Rattle.pcc_stages.specs.Stages.Common.{refused}
 use Rattle.pcc_stages.specs.Stages.Containers.{code_in}
 use Rattle.pcc_stages.specs.declared.files.TheConstants.{MAX_FILE, MAX_POLICY_FILE}
-use Rattle.view_words.specs.Invocations.{ViewInvocation}
-use Rattle.view_words.specs.Invocations as views
+use Rattle.view_cli.specs.Invocations.{ViewInvocation}
+use Rattle.view_cli.specs.Invocations as views
 use Rattle.view_cli.specs.Texts.{help_text, version_text, formula_too_long_line, view_texts}
 use Rattle.view_cli.specs.declared.limits.TheConstants.{MAX_FORMULA}
 

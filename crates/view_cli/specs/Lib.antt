@@ -3,3 +3,5 @@ pub mod Commands
 pub mod Tasks
 pub mod Reports
 pub mod Headline
+pub mod Invocations
+pub mod Arguments

@@ -1,8 +1,8 @@
 -- How a report ends a run.
-use Rattle.packet_trace.specs.Tracers.{traced_text}
-use Rattle.pcc_exit.specs.Exits.{Exit}
-use Rattle.pcc_exit.specs.Requests.{usage_exit}
-use Rattle.pcc_exit.specs.Runs.{done_exit}
+use Rattle.view_trace.specs.Tracers.{traced_text}
+use Rattle.pcc_stages.specs.Exits.{Exit}
+use Rattle.pcc_stages.specs.Requests.{usage_exit}
+use Rattle.pcc_stages.specs.Runs.{done_exit}
 use Rattle.pcc_stages.specs.Stages.Common.{refused}
 use Rattle.view_cli.specs.Texts.{help_text, version_text, formula_too_long_line, absent_packet_line, view_texts}
 use Rattle.view_cli.specs.declared.report.Report.{Report}

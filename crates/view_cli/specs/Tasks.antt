@@ -3,12 +3,12 @@ use Rattle.std.specs.Prelude.{ℕ, List, [], ◌∷◌, ◌++◌, Option, Some, 
 use Rattle.policy_set.specs.Views.{PolicyView}
 use Rattle.policy_set.specs.Names.{policy_of}
 use Rattle.pcc_words.specs.Invocations.{PolicyWord, named, from_file}
-use Rattle.pcc_exit.specs.Exits.{Exit}
-use Rattle.pcc_exit.specs.Requests.{Request, Standing, no_command, unknown_policy, command, usage_exit}
-use Rattle.pcc_exit.specs.Runs.{Task, request_of_task, done_exit}
-use Rattle.pcc_exit.specs.Stages.{Stage, gives, ◌>>=◌}
+use Rattle.pcc_stages.specs.Exits.{Exit}
+use Rattle.pcc_stages.specs.Requests.{Request, Standing, no_command, unknown_policy, command, usage_exit}
+use Rattle.pcc_stages.specs.Runs.{Task, request_of_task, done_exit}
+use Rattle.pcc_stages.specs.Stage.{Stage, gives, ◌>>=◌}
 use Rattle.pcc_stages.specs.Stages.Common.{ending}
-use Rattle.view_words.specs.Invocations.{ViewInvocation, list, goals, packet, formula, source, help, version, view_command_of}
+use Rattle.view_cli.specs.Invocations.{ViewInvocation, list, goals, packet, formula, source, help, version, view_command_of}
 use Rattle.view_cli.specs.Texts.{help_text, version_text, view_texts}
 use Rattle.view_cli.specs.Commands.List.{list_command}
 use Rattle.view_cli.specs.Commands.Goals.{goals_command}

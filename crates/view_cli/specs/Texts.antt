@@ -1,6 +1,6 @@
 -- The lines that say how the program is called, and those that don't come from what files hold.
 use Rattle.std.specs.Prelude.{ℕ, List, ◌++◌, codes, decimal}
-use Rattle.pcc_exit.specs.Requests.{Texts}
+use Rattle.pcc_stages.specs.Requests.{Texts}
 use Rattle.pcc_stages.specs.Texts.{texts_with}
 
 -- the arguments are no command

@@ -4,13 +4,13 @@ ghost use Rattle.std.specs.Prelude.{◌≡◌, ℕ, List, map, string_bytes};
 ghost use Rattle.file_port.specs.Events.{Event};
 ghost use Rattle.file_port.specs.Files.{FilesState};
 ghost use Rattle.file_port.specs.Sink.{SinkState};
-ghost use Rattle.pcc_exit.specs.Runs.{Runs, Prints};
-ghost use Rattle.pcc_exit.specs.Ends.{Ends};
-ghost use Rattle.pcc_exit.specs.Accounts.{Accounts};
+ghost use Rattle.pcc_stages.specs.Runs.{Runs, Prints};
+ghost use Rattle.pcc_stages.specs.Ends.{Ends};
+ghost use Rattle.pcc_stages.specs.Accounts.{Accounts};
 ghost use Rattle.pcc_stages.specs.Answers.{Gives};
 ghost use Rattle.pcc_stages.specs.Decisions.{exit_of};
-ghost use Rattle.view_words.specs.Commands.{view_invocation_of, IsInViewRange};
-ghost use Rattle.view_words.specs.Invocations.{view_command_of};
+ghost use Rattle.view_cli.specs.Arguments.{view_invocation_of, IsInViewRange};
+ghost use Rattle.view_cli.specs.Invocations.{view_command_of};
 ghost use Rattle.view_cli.specs.Texts.{view_texts};
 ghost use Rattle.view_cli.specs.Tasks.{exit_of_command, exit_if_command};
 ghost use Rattle.view_cli.specs.Tasks.{view_task_of, view_request_of};
@@ -21,10 +21,10 @@ use crate::commands::{
     formula_command, goals_command, list_command, packet_command, source_command,
 };
 use crate::report::Report;
+use crate::{Command, read_arguments};
 use file_port::{Files, Sink};
 use pcc_stages::{Stop, status_after};
 use std::alloc::Global;
-use view_words::{Command, read_arguments};
 
 /// Makes the reads of the command and returns its report, or the stop that refuses it. Prints
 /// nothing.
@@ -109,12 +109,12 @@ pub fn pcc_view<F: Files, S: Sink>(
         (F.log files.old) (F.log files.new) (S.state out.old) (S.state out.new) result }
 {
     proof_container::laws();
-    container_listing::laws();
+    view_container::laws();
     policy_set::laws();
     formula_text::laws();
     asm_text::laws();
-    fault_marks::laws();
-    goal_listing::laws();
+    view_faults::laws();
+    view_goal_text::laws();
     let decision = decide(alloc, words.as_slice(), files);
     print(decision, out)
 }
@@ -132,5 +132,5 @@ pub fn laws()
         → Runs view_texts (view_task_of args).stage e e' f g s t status
         → Accounts (view_request_of args) f g s t status }
 {
-    pcc_exit::laws();
+    pcc_stages::laws();
 }

@@ -5,7 +5,7 @@ ghost use Rattle.file_port.specs.Sink.{Puts};
 ghost use Rattle.packet_store.specs.declared.reader.TheConstants.{MAX_PACKET};
 
 use file_port::{Put, Sink};
-use packet_trace::Tracer;
+use view_trace::Tracer;
 
 /// A packet whose run is printed step by step. All memory that the run needs is reserved.
 #[derive(Drop)]
@@ -20,7 +20,7 @@ pub struct TraceJob {
 }
 
 impl TraceJob {
-    ghost use Rattle.packet_trace.specs.Tracers.{traced_text};
+    ghost use Rattle.view_trace.specs.Tracers.{traced_text};
 
     /// Runs the packet, and prints each step and how the run ended; stops at the first write that
     /// fails.

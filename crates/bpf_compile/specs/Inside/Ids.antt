@@ -6,8 +6,8 @@ use Rattle.term_table.specs.Tree.{Tree}
 use Rattle.term_table.specs.Table.{TableView, IsKnown, id_trees}
 use Rattle.lf_encode.specs.Contexts.{machine_context, encoding_in}
 use Rattle.bpf_words.specs.declared.insn.Bpf.{Bpf}
-use Rattle.bpf_vc.specs.Invariants.{invariants_from}
-use Rattle.bpf_container.specs.Contents.{invariant_terms}
+use Rattle.bpf_condition.specs.Invariants.{invariants_from}
+use Rattle.bpf_compile.specs.Contents.{invariant_terms}
 
 -- the terms of invariants
 abbrev pub terms_of : List (ℕ × Form) → List (ℕ × Tree)

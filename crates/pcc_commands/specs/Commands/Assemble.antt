@@ -1,7 +1,7 @@
 -- `asm POLICY IN OUT [--v2] [--bound N]`
 use Rattle.std.specs.Prelude.{ℕ, List, Option}
-use Rattle.pcc_exit.specs.Stages.{Stage, ◌>>=◌}
-use Rattle.pcc_exit.specs.Runs.{Effect}
+use Rattle.pcc_stages.specs.Stage.{Stage, ◌>>=◌}
+use Rattle.pcc_stages.specs.Runs.{Effect}
 use Rattle.pcc_stages.specs.Stages.Common.{policy_named}
 use Rattle.pcc_commands.specs.Stages.Writing.{writing}
 use Rattle.pcc_commands.specs.Stages.Assembling.{assembled_of}

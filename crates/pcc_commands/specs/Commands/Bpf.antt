@@ -1,7 +1,7 @@
 -- `bpf IN OUT`
 use Rattle.std.specs.Prelude.{ℕ, List}
-use Rattle.pcc_exit.specs.Stages.{Stage, ◌>>=◌}
-use Rattle.pcc_exit.specs.Runs.{Effect}
+use Rattle.pcc_stages.specs.Stage.{Stage, ◌>>=◌}
+use Rattle.pcc_stages.specs.Runs.{Effect}
 use Rattle.pcc_commands.specs.Stages.Writing.{writing}
 use Rattle.pcc_commands.specs.Stages.Compiling.{compiled_of}
 

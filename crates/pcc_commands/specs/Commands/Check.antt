@@ -2,8 +2,8 @@
 use Rattle.std.specs.Prelude.{ℕ, List}
 use Rattle.pcc_words.specs.Invocations.{PolicyWord}
 use Rattle.pcc_lines.specs.Fixed.{accepted_line}
-use Rattle.pcc_exit.specs.Stages.{Stage, ◌>>=◌}
-use Rattle.pcc_exit.specs.Runs.{Effect}
+use Rattle.pcc_stages.specs.Stage.{Stage, ◌>>=◌}
+use Rattle.pcc_stages.specs.Runs.{Effect}
 use Rattle.pcc_stages.specs.Stages.Common.{printing}
 use Rattle.pcc_stages.specs.Stages.Policies.{policy_told}
 use Rattle.pcc_commands.specs.Stages.Judging.{accepted_of}

@@ -9,16 +9,16 @@ use Rattle.reference_machine.specs.declared.layout.TheConstants.{ARENA}
 use Rattle.reference_machine.specs.Starts.{StartView, start_state}
 use Rattle.packet_store.specs.PolicyStarts.{start_of}
 use Rattle.safe_host.specs.Counts.{steps_of}
-use Rattle.demo_input.specs.Sources.{demo_source}
-use Rattle.demo_input.specs.Packets.{demo_packet}
-use Rattle.demo_input.specs.declared.packets.TheConstants.{PACKETS}
+use Rattle.pcc_demo.specs.Sources.{demo_source}
+use Rattle.pcc_demo.specs.Packets.{demo_packet}
+use Rattle.pcc_demo.specs.declared.packets.TheConstants.{PACKETS}
 use Rattle.pcc_lines.specs.Demo.{demo_lines}
 use Rattle.pcc_lines.specs.declared.demo.DemoSummary.{DemoSummary}
 use Rattle.pcc_stages.specs.Stages.Common.{policy_named, printing}
 use Rattle.pcc_commands.specs.declared.commands.demo.TheConstants.{DEMO_STEPS}
 use Rattle.pcc_commands.specs.declared.commands.demo.Counts.{Counts}
-use Rattle.pcc_exit.specs.Stages.{Stage, gives, ◌>>=◌}
-use Rattle.pcc_exit.specs.Runs.{Effect}
+use Rattle.pcc_stages.specs.Stage.{Stage, gives, ◌>>=◌}
+use Rattle.pcc_stages.specs.Runs.{Effect}
 use Rattle.pcc_commands.specs.Stages.Assembling.{assembled_in}
 use Rattle.pcc_commands.specs.Stages.Judging.{Shown, shown_in}
 use Rattle.pcc_commands.specs.Stages.Proving.{proved_in}

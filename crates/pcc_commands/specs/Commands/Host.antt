@@ -6,11 +6,11 @@ use Rattle.reference_machine.specs.Arena.{sum_of}
 use Rattle.reference_machine.specs.Starts.{StartView, start_state}
 use Rattle.packet_store.specs.PolicyStarts.{start_from}
 use Rattle.agent_host.specs.Agents.{base_of}
-use Rattle.turn_laws.specs.declared.turns.Turn.{Turn}
-use Rattle.turn_laws.specs.Turns.{may_go_on, budget_of}
+use Rattle.alpha_turns.specs.declared.turns.Turn.{Turn}
+use Rattle.alpha_turns.specs.Turns.{may_go_on, budget_of}
 use Rattle.pcc_lines.specs.Agents.{turn_line}
-use Rattle.pcc_exit.specs.Stages.{Stage, ◌>>=◌}
-use Rattle.pcc_exit.specs.Runs.{Effect}
+use Rattle.pcc_stages.specs.Stage.{Stage, ◌>>=◌}
+use Rattle.pcc_stages.specs.Runs.{Effect}
 use Rattle.pcc_stages.specs.Stages.Common.{printing}
 use Rattle.pcc_commands.specs.Stages.Hosting.{Member, script_of, agents_from}
 

@@ -2,8 +2,8 @@
 use Rattle.std.specs.Prelude.{ℕ, List}
 use Rattle.packet_store.specs.Results.{packet_result}
 use Rattle.pcc_lines.specs.Results.{result_lines}
-use Rattle.pcc_exit.specs.Stages.{Stage, ◌>>=◌}
-use Rattle.pcc_exit.specs.Runs.{Effect}
+use Rattle.pcc_stages.specs.Stage.{Stage, ◌>>=◌}
+use Rattle.pcc_stages.specs.Runs.{Effect}
 use Rattle.pcc_stages.specs.Stages.Common.{policy_named, printing}
 use Rattle.pcc_stages.specs.Stages.Packets.{packets_of}
 use Rattle.pcc_commands.specs.Stages.Judging.{accepted_code_of}

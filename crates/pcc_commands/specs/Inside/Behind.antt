@@ -6,8 +6,8 @@ use Rattle.packet_store.specs.Results.{packet_result}
 use Rattle.agent_script.specs.Statements.{LoadView}
 use Rattle.pcc_lines.specs.Fixed.{accepted_line}
 use Rattle.pcc_lines.specs.Results.{result_lines}
-use Rattle.pcc_exit.specs.Stages.{Stage, gives, ◌>>=◌}
-use Rattle.pcc_exit.specs.Runs.{Effect}
+use Rattle.pcc_stages.specs.Stage.{Stage, gives, ◌>>=◌}
+use Rattle.pcc_stages.specs.Runs.{Effect}
 use Rattle.pcc_stages.specs.Stages.Common.{printing}
 use Rattle.pcc_stages.specs.Stages.Packets.{packets_of}
 use Rattle.pcc_commands.specs.Stages.Judging.{accepted_of, accepted_code_of}

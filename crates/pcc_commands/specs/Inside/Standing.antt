@@ -6,9 +6,9 @@ use Rattle.policy_set.specs.Views.{PolicyView}
 use Rattle.reference_machine.specs.Starts.{StartView}
 use Rattle.packet_store.specs.declared.reader.TheConstants.{MAX_PACKET}
 use Rattle.packet_store.specs.PolicyStarts.{start_from}
-use Rattle.part_runs.specs.Parts.{part_state, rights_of}
-use Rattle.turn_laws.specs.declared.turns.Turn.{Turn}
-use Rattle.turn_laws.specs.Turns.{may_go_on, budget_of}
+use Rattle.host_steps.specs.Parts.{part_state, rights_of}
+use Rattle.alpha_turns.specs.declared.turns.Turn.{Turn}
+use Rattle.alpha_turns.specs.Turns.{may_go_on, budget_of}
 use Rattle.agent_host.specs.declared.phase.Phase.TheVariants as phases
 use Rattle.agent_host.specs.Agents.{HostedView, base_of, part_of, RightsFitAgent}
 use Rattle.pcc_commands.specs.Stages.Hosting.{Member}

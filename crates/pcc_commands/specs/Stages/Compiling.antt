@@ -6,7 +6,7 @@ use Rattle.bpf_words.specs.Reading.{program_of}
 use Rattle.bpf_compile.specs.Compilation.{compiled_container}
 use Rattle.pcc_lines.specs.Bpf.{bpf_flaw_line}
 use Rattle.pcc_lines.specs.Fixed.{bpf_too_long_line}
-use Rattle.pcc_exit.specs.Stages.{Stage, stops, gives, reads, ◌>>=◌}
+use Rattle.pcc_stages.specs.Stage.{Stage, stops, gives, reads, ◌>>=◌}
 use Rattle.pcc_stages.specs.Stages.Common.{refused}
 use Rattle.pcc_commands.specs.Stages.Proving.{container_proved}
 use Rattle.pcc_commands.specs.declared.stages.TheConstants.{MAX_PROGRAM_FILE}

@@ -13,8 +13,8 @@ use Rattle.agent_host.specs.Agents.{base_of}
 use Rattle.pcc_lines.specs.Agents.{agent_line, no_packet_line, short_line}
 use Rattle.pcc_lines.specs.Fixed.{script_too_long_line}
 use Rattle.pcc_lines.specs.Scripts.{script_fault_line}
-use Rattle.pcc_exit.specs.Exits.{Exit}
-use Rattle.pcc_exit.specs.Stages.{Stage, stops, gives, reads, ◌>>=◌}
+use Rattle.pcc_stages.specs.Exits.{Exit}
+use Rattle.pcc_stages.specs.Stage.{Stage, stops, gives, reads, ◌>>=◌}
 use Rattle.pcc_stages.specs.Stages.Common.{refused, policy_named}
 use Rattle.pcc_stages.specs.Stages.Packets.{packets_of}
 use Rattle.pcc_commands.specs.Stages.Judging.{accepted_code_of}

@@ -7,9 +7,9 @@ use Rattle.bounds_prover.specs.declared.fault.ProveFault.{ProveFault}
 use Rattle.bounds_prover.specs.declared.fault.ProveFault.TheVariants as fault
 use Rattle.bounds_prover.specs.Names.{measure_name}
 use Rattle.bounds_prover.specs.Proving.{proved_container}
-use Rattle.pcc_exit.specs.Exits.{Exit}
-use Rattle.pcc_exit.specs.Requests.{no_memory_exit}
-use Rattle.pcc_exit.specs.Stages.{Stage, stops, gives, ◌>>=◌}
+use Rattle.pcc_stages.specs.Exits.{Exit}
+use Rattle.pcc_stages.specs.Requests.{no_memory_exit}
+use Rattle.pcc_stages.specs.Stage.{Stage, stops, gives, ◌>>=◌}
 use Rattle.pcc_stages.specs.Stages.Common.{refused}
 use Rattle.pcc_stages.specs.Stages.Containers.{container_bytes_of}
 

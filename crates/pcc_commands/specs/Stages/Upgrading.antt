@@ -3,16 +3,16 @@ use Rattle.std.specs.Prelude.{ℕ, List, Result, Ok, Err}
 use Rattle.proof_container.specs.declared.container.Head.TheVariants.{Number}
 use Rattle.bounds_prover.specs.Names.{measure_name}
 use Rattle.bounds_prover.specs.declared.fault.Measure.TheVariants.{Bytes}
-use Rattle.container_upgrade.specs.declared.fault.UpgradeFault.{UpgradeFault}
-use Rattle.container_upgrade.specs.declared.fault.UpgradeFault.TheVariants as fault
-use Rattle.container_upgrade.specs.Upgrading.{upgraded_container}
+use Rattle.gate_upgrade.specs.declared.fault.UpgradeFault.{UpgradeFault}
+use Rattle.gate_upgrade.specs.declared.fault.UpgradeFault.TheVariants as fault
+use Rattle.gate_upgrade.specs.Upgrading.{upgraded_container}
 use Rattle.pcc_lines.specs.Fixed.{already_line}
 use Rattle.pcc_lines.specs.Proving.{too_big_line}
 use Rattle.pcc_lines.specs.Refusals.{refusal_line}
 use Rattle.pcc_gate.specs.declared.refusal.Refusal.TheVariants as refusal
-use Rattle.pcc_exit.specs.Exits.{Exit}
-use Rattle.pcc_exit.specs.Requests.{no_memory_exit}
-use Rattle.pcc_exit.specs.Stages.{Stage, stops, gives, ◌>>=◌}
+use Rattle.pcc_stages.specs.Exits.{Exit}
+use Rattle.pcc_stages.specs.Requests.{no_memory_exit}
+use Rattle.pcc_stages.specs.Stage.{Stage, stops, gives, ◌>>=◌}
 use Rattle.pcc_stages.specs.Stages.Common.{refused}
 use Rattle.pcc_stages.specs.Stages.Containers.{container_bytes_of}
 

@@ -1,8 +1,8 @@
 -- The stage that writes a file.
 use Rattle.std.specs.Prelude.{ℕ, List, length, Some}
 use Rattle.pcc_lines.specs.Sources.{written_line}
-use Rattle.pcc_exit.specs.Stages.{Stage, gives}
-use Rattle.pcc_exit.specs.Runs.{Effect}
+use Rattle.pcc_stages.specs.Stage.{Stage, gives}
+use Rattle.pcc_stages.specs.Runs.{Effect}
 
 -- it writes the bytes to the file of the name, and prints how many they are
 abbrev pub writing : List ℕ → List ℕ → Stage Effect

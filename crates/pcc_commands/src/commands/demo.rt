@@ -5,9 +5,9 @@ ghost use Rattle.std.specs.Prelude.{◌≡◌, ◌≤◌, ◌<◌, IfOk, Some, l
 ghost use Rattle.packet_store.specs.declared.reader.TheConstants.{MAX_PACKET};
 ghost use Rattle.packet_store.specs.PolicyStarts.{start_of};
 ghost use Rattle.pcc_words.specs.Invocations.{demo};
-ghost use Rattle.demo_input.specs.declared.sources.TheConstants.{MAX_DEMO};
-ghost use Rattle.demo_input.specs.declared.packets.TheConstants.{PACKETS};
-ghost use Rattle.demo_input.specs.Packets as packets;
+ghost use Rattle.pcc_demo.specs.declared.sources.TheConstants.{MAX_DEMO};
+ghost use Rattle.pcc_demo.specs.declared.packets.TheConstants.{PACKETS};
+ghost use Rattle.pcc_demo.specs.Packets as packets;
 ghost use Rattle.safe_host.specs.Runs.{outcome_of};
 ghost use Rattle.pcc_stages.specs.Answers.{GivesPure};
 ghost use Rattle.pcc_stages.specs.Decisions.{Decides};
@@ -19,8 +19,8 @@ ghost use Rattle.pcc_commands.specs.Inside.Shows.{shown_by};
 
 use crate::report::Report;
 use crate::stages::{accepted_in, assembled_in, proved_in};
-use demo_input::{PACKETS, demo_packet, demo_source};
 use file_port::Files;
+use pcc_demo::{PACKETS, demo_packet, demo_source};
 use pcc_gate::Accepted;
 use pcc_lines::DemoSummary;
 use pcc_stages::{Stop, policy_named};

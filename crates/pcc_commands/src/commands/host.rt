@@ -7,7 +7,7 @@ ghost use Rattle.agent_host.specs.declared.host.TheConstants.{MAX_AGENTS};
 ghost use Rattle.agent_host.specs.Agents.{base_of};
 ghost use Rattle.agent_script.specs.Scripts.{load_view};
 ghost use Rattle.pcc_lines.specs.Agents.{agent_line};
-ghost use Rattle.pcc_exit.specs.Stages.{reads, gives};
+ghost use Rattle.pcc_stages.specs.Stage.{reads, gives};
 ghost use Rattle.pcc_words.specs.Invocations.{host};
 ghost use Rattle.pcc_stages.specs.Stages.Common.{refused, policy_named};
 ghost use Rattle.pcc_stages.specs.declared.stops.Stop.TheVariants as stops;

@@ -3,9 +3,9 @@ use Rattle.std.specs.Prelude.{ℕ, ◌==◌, if◌then◌else◌, List, Option, 
 use Rattle.policy_set.specs.Views.{PolicyView}
 use Rattle.policy_set.specs.Names.{policy_of}
 use Rattle.pcc_lines.specs.Fixed.{unknown_policy_line}
-use Rattle.pcc_exit.specs.Exits.{Exit}
-use Rattle.pcc_exit.specs.Stages.{Stage, stops, gives}
-use Rattle.pcc_exit.specs.Runs.{Effect}
+use Rattle.pcc_stages.specs.Exits.{Exit}
+use Rattle.pcc_stages.specs.Stage.{Stage, stops, gives}
+use Rattle.pcc_stages.specs.Runs.{Effect}
 
 -- the command is refused
 abbrev pub refused : List ℕ → Exit

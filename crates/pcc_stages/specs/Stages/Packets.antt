@@ -4,7 +4,7 @@ use Rattle.packet_store.specs.declared.fault.PacketFault.{PacketFault}
 use Rattle.packet_store.specs.PacketDecoding.{decoded_packets}
 use Rattle.pcc_lines.specs.Fixed.{packets_too_long_line}
 use Rattle.pcc_lines.specs.PacketFaults.{packet_fault_line}
-use Rattle.pcc_exit.specs.Stages.{Stage, stops, gives, reads, ◌>>=◌}
+use Rattle.pcc_stages.specs.Stage.{Stage, stops, gives, reads, ◌>>=◌}
 use Rattle.pcc_stages.specs.Stages.Common.{refused}
 use Rattle.pcc_stages.specs.declared.files.TheConstants.{MAX_FILE}
 

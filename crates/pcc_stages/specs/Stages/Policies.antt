@@ -10,9 +10,9 @@ use Rattle.policy_set.specs.PolicyText.{policy_read}
 use Rattle.pcc_words.specs.Invocations.{PolicyWord, named, from_file}
 use Rattle.pcc_lines.specs.Fixed.{policy_too_long_line}
 use Rattle.pcc_lines.specs.Policies.{policy_lines_line, policy_length_line, policy_form_line}
-use Rattle.pcc_exit.specs.Exits.{Exit}
-use Rattle.pcc_exit.specs.Requests.{no_memory_exit}
-use Rattle.pcc_exit.specs.Stages.{Stage, stops, gives, reads, ◌>>=◌}
+use Rattle.pcc_stages.specs.Exits.{Exit}
+use Rattle.pcc_stages.specs.Requests.{no_memory_exit}
+use Rattle.pcc_stages.specs.Stage.{Stage, stops, gives, reads, ◌>>=◌}
 use Rattle.pcc_stages.specs.Stages.Common.{refused, policy_named}
 use Rattle.pcc_stages.specs.declared.files.TheConstants.{MAX_POLICY_FILE}
 

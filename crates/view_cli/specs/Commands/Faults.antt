@@ -1,12 +1,12 @@
 -- `formula FILE`, and `source FILE [--v2] [--bound N]`
 use Rattle.std.specs.Prelude.{ℕ, Bool, true, false, List, length, nat_lt, if◌then◌else◌, Option}
 use Rattle.asm_text.specs.declared.limits.TheConstants.{MAX_SOURCE}
-use Rattle.fault_marks.specs.FormReports.{formula_report}
-use Rattle.fault_marks.specs.SourceReports.{source_report}
+use Rattle.view_faults.specs.FormReports.{formula_report}
+use Rattle.view_faults.specs.SourceReports.{source_report}
 use Rattle.pcc_lines.specs.Fixed.{source_too_long_line}
-use Rattle.pcc_exit.specs.Exits.{Exit}
-use Rattle.pcc_exit.specs.Runs.{done_exit}
-use Rattle.pcc_exit.specs.Stages.{Stage, gives, reads, ◌>>=◌}
+use Rattle.pcc_stages.specs.Exits.{Exit}
+use Rattle.pcc_stages.specs.Runs.{done_exit}
+use Rattle.pcc_stages.specs.Stage.{Stage, gives, reads, ◌>>=◌}
 use Rattle.pcc_stages.specs.Stages.Common.{refused}
 use Rattle.view_cli.specs.Texts.{formula_too_long_line}
 use Rattle.view_cli.specs.declared.limits.TheConstants.{MAX_FORMULA}

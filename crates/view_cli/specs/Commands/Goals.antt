@@ -1,12 +1,12 @@
 -- `goals POLICY FILE`
 use Rattle.std.specs.Prelude.{ℕ, List, Result, Ok, Err}
-use Rattle.goal_listing.specs.Listing.{goals_of_bytes}
+use Rattle.view_goal_text.specs.Listing.{goals_of_bytes}
 use Rattle.pcc_gate.specs.declared.refusal.Refusal.{Refusal}
 use Rattle.pcc_lines.specs.Refusals.{refusal_line}
 use Rattle.pcc_words.specs.Invocations.{PolicyWord}
-use Rattle.pcc_exit.specs.Exits.{Exit}
-use Rattle.pcc_exit.specs.Runs.{done_exit}
-use Rattle.pcc_exit.specs.Stages.{Stage, stops, gives, ◌>>=◌}
+use Rattle.pcc_stages.specs.Exits.{Exit}
+use Rattle.pcc_stages.specs.Runs.{done_exit}
+use Rattle.pcc_stages.specs.Stage.{Stage, stops, gives, ◌>>=◌}
 use Rattle.pcc_stages.specs.Stages.Common.{refused}
 use Rattle.pcc_stages.specs.Stages.Policies.{policy_told}
 use Rattle.pcc_stages.specs.Stages.Containers.{container_bytes_of}

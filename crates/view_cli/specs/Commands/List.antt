@@ -7,13 +7,13 @@ use Rattle.asm_text.specs.SourceParsing.{parsed_source}
 use Rattle.proof_container.specs.Contents.{Contents}
 use Rattle.proof_container.specs.Decoding.{Fault, decoded_container}
 use Rattle.proof_container.specs.Versions.{profile_of}
-use Rattle.container_listing.specs.Listing.{listing_text}
+use Rattle.view_container.specs.Listing.{listing_text}
 use Rattle.pcc_gate.specs.declared.refusal.Refusal.TheVariants as refusal
 use Rattle.pcc_lines.specs.Refusals.{refusal_line}
 use Rattle.pcc_lines.specs.Sources.{source_fault_line}
-use Rattle.pcc_exit.specs.Exits.{Exit}
-use Rattle.pcc_exit.specs.Runs.{done_exit}
-use Rattle.pcc_exit.specs.Stages.{Stage, stops, gives, ◌>>=◌}
+use Rattle.pcc_stages.specs.Exits.{Exit}
+use Rattle.pcc_stages.specs.Runs.{done_exit}
+use Rattle.pcc_stages.specs.Stage.{Stage, stops, gives, ◌>>=◌}
 use Rattle.pcc_stages.specs.Stages.Common.{refused}
 use Rattle.pcc_stages.specs.Stages.Containers.{container_bytes_of}
 use Rattle.view_cli.specs.Commands.Faults.{text_of}

@@ -2,11 +2,11 @@
 use Rattle.std.specs.Prelude.{ℕ, List, slice_get, Option, Some, None}
 use Rattle.alpha_words.specs.declared.insn.Insn.{Insn}
 use Rattle.policy_set.specs.Views.{PolicyView}
-use Rattle.packet_trace.specs.Traces.{packet_text}
+use Rattle.view_trace.specs.Traces.{packet_text}
 use Rattle.pcc_words.specs.Invocations.{PolicyWord}
-use Rattle.pcc_exit.specs.Exits.{Exit}
-use Rattle.pcc_exit.specs.Runs.{done_exit}
-use Rattle.pcc_exit.specs.Stages.{Stage, gives, ◌>>=◌}
+use Rattle.pcc_stages.specs.Exits.{Exit}
+use Rattle.pcc_stages.specs.Runs.{done_exit}
+use Rattle.pcc_stages.specs.Stage.{Stage, gives, ◌>>=◌}
 use Rattle.pcc_stages.specs.Stages.Common.{refused}
 use Rattle.pcc_stages.specs.Stages.Policies.{policy_told}
 use Rattle.pcc_stages.specs.Stages.Containers.{code_of}

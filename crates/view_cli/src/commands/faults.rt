@@ -5,21 +5,21 @@ ghost use Rattle.std.specs.Prelude.{◌≡◌, ◌≤◌, length, IfOk};
 ghost use Rattle.asm_text.specs.declared.limits.TheConstants.{MAX_SOURCE};
 ghost use Rattle.proof_container.specs.Versions.{IsVersion, IsBoundOf};
 ghost use Rattle.pcc_words.specs.Commands.{IsVersionOf};
-ghost use Rattle.pcc_exit.specs.Stages.{gives};
+ghost use Rattle.pcc_stages.specs.Stage.{gives};
 ghost use Rattle.pcc_stages.specs.Answers.{Gives, GivesPure};
-ghost use Rattle.fault_marks.specs.SourceReports.{source_report};
+ghost use Rattle.view_faults.specs.SourceReports.{source_report};
 ghost use Rattle.view_cli.specs.Commands.Faults.{text_of, told_exit, formula_exit};
 ghost use Rattle.view_cli.specs.Commands.Faults.{formula_command, source_command};
 ghost use Rattle.view_cli.specs.Reports.{exit_of_report};
 
+use crate::SourceArgs;
 use crate::limits::MAX_FORMULA;
 use crate::report::Report;
 use asm_text::MAX_SOURCE;
-use fault_marks::{Report as Told, formula_lines, source_lines};
 use file_port::Files;
 use pcc_stages::{RefusedLine, Stop, bytes_of};
 use std::alloc::Global;
-use view_words::SourceArgs;
+use view_faults::{Report as Told, formula_lines, source_lines};
 
 /// Reads the text in the file with this name.
 pub fn text_of<'a, F: Files>(

@@ -2,17 +2,17 @@
 
 ghost use Rattle.pcc_words.specs.Commands.{word_view};
 ghost use Rattle.pcc_stages.specs.Answers.{Gives, GivesPure};
-ghost use Rattle.goal_listing.specs.Listing.{goals_of_bytes};
+ghost use Rattle.view_goal_text.specs.Listing.{goals_of_bytes};
 ghost use Rattle.view_cli.specs.Commands.Goals.{goals_found, goals_command};
 ghost use Rattle.view_cli.specs.Reports.{exit_of_report};
 
+use crate::GoalsArgs;
 use crate::report::Report;
 use file_port::Files;
-use goal_listing::{GoalsFault, list_goals};
 use pcc_stages::{RefusedLine, Stop, container_bytes_of, policy_told};
 use policy_set::Policy;
 use std::alloc::Global;
-use view_words::GoalsArgs;
+use view_goal_text::{GoalsFault, list_goals};
 
 /// The goals of the container's condition under the policy.
 fn goals_in<'a>(alloc: Global, policy: &Policy, bytes: &[u8]) -> Result<Report, Stop<'a>>

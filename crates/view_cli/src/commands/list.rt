@@ -5,25 +5,25 @@ ghost use Rattle.asm_text.specs.declared.limits.TheConstants.{MAX_SOURCE};
 ghost use Rattle.proof_container.specs.Contents.{Contents};
 ghost use Rattle.proof_container.specs.Decoding.{decoded_container};
 ghost use Rattle.proof_container.specs.Views.{contents_of};
-ghost use Rattle.container_listing.specs.Listing.{listing_text};
-ghost use Rattle.pcc_exit.specs.Runs.{done_exit};
-ghost use Rattle.pcc_exit.specs.Stages.{gives};
+ghost use Rattle.view_container.specs.Listing.{listing_text};
+ghost use Rattle.pcc_stages.specs.Runs.{done_exit};
+ghost use Rattle.pcc_stages.specs.Stage.{gives};
 ghost use Rattle.pcc_stages.specs.Answers.{Gives, GivesPure};
 ghost use Rattle.pcc_stages.specs.declared.files.TheConstants.{MAX_FILE};
 ghost use Rattle.view_cli.specs.Commands.List.{container_found, lines_in, source_lines_of};
 ghost use Rattle.view_cli.specs.Commands.List.{list_command};
 ghost use Rattle.view_cli.specs.Reports.{exit_of_report};
 
+use crate::ListArgs;
 use crate::commands::faults::text_of;
 use crate::report::Report;
 use asm_text::{LineFault, SrcInsn, read_source};
-use container_listing::{ListFault, list};
 use file_port::Files;
 use pcc_gate::Refusal;
 use pcc_stages::{MAX_FILE, RefusedLine, Stop, bytes_of};
 use proof_container::{Container, Malformed, profile_of, read};
 use std::alloc::{AllocError, Global};
-use view_words::ListArgs;
+use view_container::{ListFault, list};
 
 /// The container that the bytes are.
 fn container_in<'a, 'b>(alloc: Global, bytes: &'b [u8]) -> Result<Container<'b>, Stop<'a>>

@@ -3,21 +3,21 @@
 ghost use Rattle.std.specs.Prelude.{◌≡◌, ◌≤◌, length, slice_get, option_map, IfSome, IfOk};
 ghost use Rattle.packet_store.specs.declared.reader.TheConstants.{MAX_PACKET};
 ghost use Rattle.pcc_words.specs.Commands.{word_view};
-ghost use Rattle.pcc_exit.specs.Stages.{gives};
+ghost use Rattle.pcc_stages.specs.Stage.{gives};
 ghost use Rattle.pcc_stages.specs.Answers.{Gives, GivesPure};
 ghost use Rattle.view_cli.specs.Commands.Packet.{packet_exit, packet_command};
 ghost use Rattle.view_cli.specs.Reports.{exit_of_report};
 
+use crate::PacketArgs;
 use crate::report::Report;
 use crate::trace_job::TraceJob;
 use alpha_cfg::Code;
 use file_port::Files;
 use packet_store::PacketFile;
-use packet_trace::Tracer;
 use pcc_stages::{Stop, code_of, packets_of, policy_told};
 use policy_set::Policy;
 use std::alloc::Global;
-use view_words::PacketArgs;
+use view_trace::Tracer;
 
 /// The packet of a number, if there is one.
 fn packet_at(packets: &PacketFile, number: u64) -> Option<&[u8]>

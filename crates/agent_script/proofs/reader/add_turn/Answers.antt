@@ -1,5 +1,5 @@
 use Rattle.std.proofs.Common.{List, Result, Ok, refl, sym, ap, ◌∙◌, arith}
-use Rattle.turn_laws.specs.declared.turns.Turn.{Turn}
+use Rattle.alpha_turns.specs.declared.turns.Turn.{Turn}
 use Rattle.agent_script.specs.declared.fault.ScriptFlaw.{ScriptFlaw}
 use Rattle.agent_script.specs.Scripts.{ScriptView, script_view}
 use Rattle.agent_script.proofs.Adding.{turn-none, turn-taken, load-views}

@@ -1,5 +1,5 @@
 use Rattle.std.proofs.Common.{List, [], map, ap, ◌∙◌}
-use Rattle.turn_laws.specs.declared.turns.Turn.{Turn}
+use Rattle.alpha_turns.specs.declared.turns.Turn.{Turn}
 use Rattle.agent_script.specs.declared.script.Load.{Load}
 use Rattle.agent_script.specs.Scripts.{ScriptView, load_view}
 use Rattle.agent_script.proofs.reader.no_lines.Goals as goal

@@ -1,9 +1,9 @@
 use Rattle.std.proofs.Common.{sym, subst, arith}
-use Rattle.text_lines.specs.Lines.{lines_of}
+use Rattle.text_tokens.specs.Lines.{lines_of}
 use Rattle.asm_text.specs.SourceParsing.{parsed_source}
 use Rattle.asm_text.specs.Views.{ParsesSource, source_view}
 use Rattle.asm_text.specs.Inside.Views.{progress_view}
-use Rattle.text_lines.proofs.Cutting.{no_lines}
+use Rattle.text_tokens.proofs.Cutting.{no_lines}
 use Rattle.asm_text.proofs.Taking.{first_lines, line_turn, line_stops, lines_end}
 use Rattle.asm_text.proofs.reading.parse.Goals as goal
 

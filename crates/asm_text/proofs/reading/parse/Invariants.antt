@@ -1,5 +1,5 @@
 use Rattle.std.proofs.Common.{◌≡◌, ◌+◌, ◌≤◌, length}
-use Rattle.text_lines.specs.Lines.{lines_of}
+use Rattle.text_tokens.specs.Lines.{lines_of}
 use Rattle.asm_text.specs.SourceParsing.{take_lines, parsed_source}
 use Rattle.asm_text.specs.Inside.Views.{progress_view, IsSoundProgress}
 use Rattle.asm_text.proofs.reading.parse.Given as goal

@@ -1,7 +1,7 @@
 use Rattle.std.proofs.Common.{subst}
-use Rattle.text_lines.specs.Lines.{AreLines}
+use Rattle.text_tokens.specs.Lines.{AreLines}
 use Rattle.asm_text.proofs.Operands as insn
-use Rattle.text_lines.proofs.Endings.{lines_are, are_lines}
+use Rattle.text_tokens.proofs.Endings.{lines_are, are_lines}
 use Rattle.asm_text.proofs.Collected as source
 use Rattle.asm_text.proofs.Stopping.{fault_is, is_fault, none_begins}
 use Rattle.asm_text.proofs.theorems.laws.Goals as goal

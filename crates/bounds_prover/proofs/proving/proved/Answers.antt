@@ -18,7 +18,7 @@ use Rattle.pcc_gate.proofs.Kept.{known-more, trees-same}
 use Rattle.pcc_gate.proofs.Refusing.{keys}
 use Rattle.pcc_gate.proofs.Stages.{low-invs}
 use Rattle.prover_class.specs.Parts.{condition_proof, first_not_easy}
-use Rattle.condition_prover.specs.Conditions.{condition_parts, IsKnownAnswer, IsPartsAnswer}
+use Rattle.prover_conditions.specs.Conditions.{condition_parts, IsKnownAnswer, IsPartsAnswer}
 use Rattle.bounds_prover.specs.Proving.{excess, encoded_unless, IsMadeAnswer}
 use Rattle.bounds_prover.proofs.Making.{same_roots, made-contents, not_easy-made, proof-made}
 use Rattle.bounds_prover.proofs.proving.proved.Goals as goal

@@ -24,7 +24,7 @@ write-requires c =
     let written = c.deref-2.ensures.value ∙ c.in_ok-code.ensures ∙ ap code_bytes (c.deref.ensures.value ∙ c.in_ok-insns.ensures.exact) in
     let ids = subst (AreInvIds c.encode_invs.new.table program) (sym c.deref-3.ensures.value) c.in_ok-invs.ensures in
     let policy = c.number.ensures.exact ∙ ap policy_number c.requires.policy in
-    let holds = code-bytes program c.laws-2.ensures.bytes (c.laws-2.ensures.encode One) (c.code_laws.ensures.code program c.requires.program) (c.code_laws.ensures.profile program c.requires.program) in
+    let holds = code-bytes program c.written_laws.ensures.bytes (c.written_laws.ensures.encode One) (c.code_laws.ensures.code program c.requires.program) (c.code_laws.ensures.profile program c.requires.program) in
     view-writable program _ (c.laws.ensures.contents program _ c.requires.program holds)
     (contents-are program c.number.result c.deref-2.result.now c.encode_invs.new.table
     c.deref-3.result.now policy written ids)

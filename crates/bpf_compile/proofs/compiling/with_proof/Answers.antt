@@ -33,7 +33,7 @@ returns-in-Ok-clause-exact c =
     let program = c.args.program.now in
     let made = at-program c.args.program.now c.args.policy.now c.args.bytes.now c.requires.policy c.requires.bare _
     (bytes-given c.args.policy.now c.args.bytes.now c.prove.result c.in-Ok.out c.in-Ok.is c.prove.ensures.exact) in
-    let holds = code-bytes program c.laws-3.ensures.bytes (c.laws-3.ensures.encode One) (c.code_laws.ensures.code program c.requires.program) (c.code_laws.ensures.profile program c.requires.program) in
+    let holds = code-bytes program c.written_laws.ensures.bytes (c.written_laws.ensures.encode One) (c.code_laws.ensures.code program c.requires.program) (c.code_laws.ensures.profile program c.requires.program) in
     compilation-is program c.in-Ok.out.items holds (c.laws.ensures.proved program c.requires.program)
     (λ code proof are given. c.laws-2.ensures.made program code proof c.requires.program are given) made
 

@@ -6,9 +6,9 @@ use Rattle.lf_signature.specs.Nodes.{IsIdOf}
 use Rattle.lf_sequents.specs.Sequents.{AreOfTable}
 use Rattle.lf_sequents.specs.Answers.{proof_taken, proofs_taken}
 use Rattle.lf_sequents.specs.Room.{sequents_of}
-use Rattle.lf_rules.proofs.Grown.{extends_trans}
+use Rattle.lf_terms.proofs.Grown.{extends_trans}
 use Rattle.lf_sequents.proofs.Fitting.{placeds-more, proofs-same}
-use Rattle.lf_rules.proofs.Slices.{parted}
+use Rattle.lf_terms.proofs.Slices.{parted}
 use Rattle.lf_sequents.proofs.conclude.+with_proofs.Goals as goal
 
 pub with_proofs-requires : goal.with_proofs-requires

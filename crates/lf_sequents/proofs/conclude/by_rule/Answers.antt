@@ -5,12 +5,12 @@ use Rattle.lf_signature.specs.Schemas.{rule_of}
 use Rattle.lf_signature.specs.Constants.{rule_at}
 use Rattle.lf_check.proofs.Rows.{kept-grown}
 use Rattle.hereditary_subst.proofs.Rows.{memo-more}
-use Rattle.lf_rules.specs.Instance.{nth_arg, form_with, by_rule}
-use Rattle.lf_rules.proofs.Shifts.{shift-none}
-use Rattle.lf_rules.specs.Instance.{trees_of}
+use Rattle.lf_terms.specs.Instance.{nth_arg, form_with, by_rule}
+use Rattle.lf_terms.proofs.Shifts.{shift-none}
+use Rattle.lf_terms.specs.Instance.{trees_of}
 use Rattle.lf_sequents.specs.Answers.{FitPremises, HasForm, IsRowAnswer, proofs_taken}
 use Rattle.lf_sequents.specs.Room.{sequents_of, HasVarRoom}
-use Rattle.lf_rules.proofs.Grown.{known-more, trees-same, extends_trans}
+use Rattle.lf_terms.proofs.Grown.{known-more, trees-same, extends_trans}
 use Rattle.lf_sequents.proofs.Fitting.{placeds-more, are_placed, fit-more, fit-back, proofs-same}
 use Rattle.lf_sequents.proofs.Concluding.{concluded}
 use Rattle.lf_sequents.proofs.Having.{has_rule, the_rule, no_form, stands_some}

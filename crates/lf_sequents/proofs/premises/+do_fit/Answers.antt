@@ -1,14 +1,14 @@
 use Rattle.std.proofs.Common.{◌≡◌, ◌∷◌, ◌-◌, ◌↔◌, length, take, drop, map, sym, ap, subst, IfOk, IsTrue, arith}
 use Rattle.term_table.specs.Table.{Extends}
 use Rattle.lf_signature.specs.Schemas.{premise_of}
-use Rattle.lf_rules.specs.Instance.{nth_arg}
-use Rattle.lf_rules.specs.Instance.{trees_of}
+use Rattle.lf_terms.specs.Instance.{nth_arg}
+use Rattle.lf_terms.specs.Instance.{trees_of}
 use Rattle.lf_sequents.specs.Sequents.{AreOfTable}
 use Rattle.lf_sequents.specs.Answers.{FitPremises}
 use Rattle.lf_sequents.specs.Room.{sequents_of}
-use Rattle.lf_rules.proofs.Grown.{known-more, trees-same}
+use Rattle.lf_terms.proofs.Grown.{known-more, trees-same}
 use Rattle.lf_sequents.proofs.Fitting.{placeds-more, fit_next}
-use Rattle.lf_rules.proofs.Slices.{parted}
+use Rattle.lf_terms.proofs.Slices.{parted}
 use Rattle.lf_sequents.proofs.premises.+do_fit.Goals as goal
 
 pub do_fit-requires : goal.do_fit-requires

@@ -1,7 +1,7 @@
 use Rattle.std.proofs.Common.{◌≡◌, subst, IsTrue, ◌↔◌}
 use Rattle.term_table.specs.Table.{tree_at, ctx_of}
 use Rattle.lf_signature.specs.Typing.{Checks}
-use Rattle.lf_rules.proofs.Grown.{known-more}
+use Rattle.lf_terms.proofs.Grown.{known-more}
 use Rattle.lf_sequents.proofs.Lasting.{kept-last}
 use Rattle.lf_sequents.proofs.Fitting.{ctx-same}
 use Rattle.lf_sequents.proofs.premises.is_typed.Goals as goal

@@ -1,6 +1,6 @@
 use Rattle.std.proofs.Common.{map, string_bytes}
 use Rattle.pcc_words.specs.Invocations.{command_of}
-use Rattle.pcc_exit.specs.Runs.{Runs}
+use Rattle.pcc_stages.specs.Runs.{Runs}
 use Rattle.pcc_stages.specs.Texts.{texts}
 use Rattle.pcc_stages.proofs.DecisionLemmas.{runs_of_decision}
 use Rattle.pcc_commands.specs.Tasks.{task_of}

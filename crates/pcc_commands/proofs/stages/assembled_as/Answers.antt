@@ -3,7 +3,7 @@ use Rattle.asm_text.specs.Views.{source_view}
 use Rattle.proof_container.specs.Encoding.{encoding_of}
 use Rattle.pcc_asm.specs.declared.fault.AsmFlaw.{AsmFlaw}
 use Rattle.pcc_asm.specs.Assembling.{assembled_contents}
-use Rattle.pcc_exit.specs.Stages.{gives}
+use Rattle.pcc_stages.specs.Stage.{gives}
 use Rattle.pcc_commands.specs.Stages.Assembling.{container_made, assembled_as}
 use Rattle.pcc_commands.proofs.VersionLemmas.{built-version, bound-in-range}
 use Rattle.pcc_commands.proofs.stages.assembled_as.Goals as goal

@@ -1,6 +1,6 @@
 use Rattle.std.proofs.Common.{ℕ, Vec, Global, refl}
 use Rattle.file_port.specs.Events.{too_long, no_memory}
-use Rattle.pcc_exit.specs.Stages.{gives}
+use Rattle.pcc_stages.specs.Stage.{gives}
 use Rattle.pcc_stages.specs.Stages.Common.{refused}
 use Rattle.pcc_stages.specs.Stops.{refused_text}
 use Rattle.pcc_stages.proofs.StageLemmas.{read_gives}

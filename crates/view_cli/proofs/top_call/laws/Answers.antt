@@ -1,4 +1,4 @@
-use Rattle.view_words.specs.Invocations.{view_command_of}
+use Rattle.view_cli.specs.Invocations.{view_command_of}
 use Rattle.view_cli.specs.Texts.{view_texts}
 use Rattle.view_cli.specs.Tasks.{view_task_of, view_request_of}
 use Rattle.view_cli.proofs.Suited.{suited}

@@ -1,6 +1,6 @@
 use Rattle.std.proofs.Common.{map, string_bytes}
-use Rattle.view_words.specs.Invocations.{view_command_of}
-use Rattle.pcc_exit.specs.Runs.{Runs}
+use Rattle.view_cli.specs.Invocations.{view_command_of}
+use Rattle.pcc_stages.specs.Runs.{Runs}
 use Rattle.pcc_stages.proofs.DecisionLemmas.{decides_ending, runs_of_decision, runs-usage}
 use Rattle.view_cli.specs.Texts.{view_usage_line, view_texts}
 use Rattle.view_cli.specs.Tasks.{exit_if_command, view_task_of}

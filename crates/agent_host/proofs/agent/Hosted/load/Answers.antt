@@ -9,7 +9,7 @@ use Rattle.reference_machine.specs.Starts.{StartView}
 use Rattle.reference_machine.proofs.Starting.{length-arena_words}
 use Rattle.packet_store.specs.PolicyStarts.{start_from}
 use Rattle.vcgen.specs.Safety.{all_steps}
-use Rattle.part_runs.specs.Parts.{rights_of}
+use Rattle.host_steps.specs.Parts.{rights_of}
 use Rattle.agent_host.specs.Agents.{HostedView, agent_at}
 use Rattle.agent_host.specs.Hosts.{LoadsAt}
 use Rattle.agent_host.specs.Inside.Fields.{hosted_view}

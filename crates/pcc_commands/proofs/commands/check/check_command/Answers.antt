@@ -1,5 +1,5 @@
 use Rattle.policy_set.specs.Views.{PolicyView}
-use Rattle.pcc_exit.specs.Stages.{◌>>=◌}
+use Rattle.pcc_stages.specs.Stage.{◌>>=◌}
 use Rattle.pcc_words.specs.Commands.{word_view}
 use Rattle.pcc_stages.specs.Stages.Policies.{policy_told}
 use Rattle.pcc_stages.proofs.StageLemmas.{stops_first, gives_then}

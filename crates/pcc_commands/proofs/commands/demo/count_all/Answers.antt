@@ -1,7 +1,7 @@
 use Rattle.std.proofs.Common.{◌≡◌, refl, ◌∙◌, ap, arith}
 use Rattle.packet_store.specs.PolicyStarts.{start_of}
 use Rattle.pcc_gate.specs.Views.{AcceptedView}
-use Rattle.demo_input.specs.Packets.{demo_packet}
+use Rattle.pcc_demo.specs.Packets.{demo_packet}
 use Rattle.pcc_commands.specs.Commands.Demo.{count_from}
 use Rattle.pcc_commands.proofs.CountLemmas.{counts-none, counts-more}
 use Rattle.pcc_commands.proofs.commands.demo.count_all.Goals as goal

@@ -1,6 +1,6 @@
 use Rattle.std.proofs.Common.{◌≡◌, ℕ, List, None, Vec, Global, ◌∙◌, subst}
-use Rattle.demo_input.specs.Sources.{demo_source}
-use Rattle.pcc_exit.specs.Stages.{gives}
+use Rattle.pcc_demo.specs.Sources.{demo_source}
+use Rattle.pcc_stages.specs.Stage.{gives}
 use Rattle.pcc_stages.specs.Stops.{end_of}
 use Rattle.pcc_stages.specs.Answers.{StopsAs, GivesPure}
 use Rattle.pcc_stages.proofs.StageLemmas.{pure_stops, pure_gives}

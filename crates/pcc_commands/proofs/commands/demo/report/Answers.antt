@@ -1,6 +1,6 @@
 use Rattle.std.proofs.Common.{ap}
 use Rattle.pcc_lines.specs.Demo.{demo_lines}
-use Rattle.pcc_exit.specs.Stages.{◌>>=◌}
+use Rattle.pcc_stages.specs.Stage.{◌>>=◌}
 use Rattle.pcc_stages.specs.Stages.Common.{printing}
 use Rattle.pcc_stages.proofs.StageLemmas.{pure_stops}
 use Rattle.pcc_commands.specs.Commands.Demo.{demo_told, demo_effect}

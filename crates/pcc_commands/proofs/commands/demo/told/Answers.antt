@@ -1,7 +1,7 @@
 use Rattle.std.proofs.Common.{◌≡◌, ℕ, List, Err, ◌∙◌, ap, sym, subst}
 use Rattle.policy_set.specs.Views.{PolicyView}
 use Rattle.pcc_lines.specs.declared.demo.DemoSummary.{DemoSummary}
-use Rattle.pcc_exit.specs.Stages.{gives, ◌>>=◌}
+use Rattle.pcc_stages.specs.Stage.{gives, ◌>>=◌}
 use Rattle.pcc_stages.specs.Stops.{end_of}
 use Rattle.pcc_stages.specs.Answers.{StopsAs}
 use Rattle.pcc_stages.proofs.StageLemmas.{pure_stops, pure_gives}

@@ -1,7 +1,7 @@
 use Rattle.std.proofs.Common.{ℕ, List, Ok, Err, Vec, Global, refl, subst, string_bytes, slice_index, ◌<◌}
 use Rattle.file_port.specs.Events.{whole, missing, too_long, failed, no_memory}
 use Rattle.pcc_lines.specs.Agents.{agent_line}
-use Rattle.pcc_exit.specs.Stages.{gives}
+use Rattle.pcc_stages.specs.Stage.{gives}
 use Rattle.pcc_stages.specs.declared.files.TheConstants.{MAX_FILE}
 use Rattle.pcc_stages.specs.declared.refused_line.RefusedLine.TheVariants.{OfAgent}
 use Rattle.pcc_stages.specs.declared.stops.Stop.TheVariants.{Refused, MissingOfScript, ReadFaultOfScript, Memory}

@@ -2,7 +2,7 @@ use Rattle.std.proofs.Common.{ℕ, List, Ok, Err, Vec, Global, subst, string_byt
 use Rattle.pcc_gate.specs.Views.{AcceptedView}
 use Rattle.pcc_lines.specs.Agents.{agent_line}
 use Rattle.pcc_lines.specs.Fixed.{container_too_long_line}
-use Rattle.pcc_exit.specs.Stages.{Stage, reads, gives}
+use Rattle.pcc_stages.specs.Stage.{Stage, reads, gives}
 use Rattle.pcc_stages.specs.declared.files.TheConstants.{MAX_FILE}
 use Rattle.pcc_stages.specs.Stages.Common.{refused}
 use Rattle.pcc_stages.specs.Answers.{GivesPure}

@@ -3,7 +3,7 @@ use Rattle.packet_store.specs.declared.fault.PacketFault.{PacketFault}
 use Rattle.packet_store.specs.PacketDecoding.{decoded_packets}
 use Rattle.pcc_lines.specs.Agents.{agent_line}
 use Rattle.pcc_lines.specs.Fixed.{packets_too_long_line}
-use Rattle.pcc_exit.specs.Stages.{Stage, reads, gives, ◌>>=◌}
+use Rattle.pcc_stages.specs.Stage.{Stage, reads, gives, ◌>>=◌}
 use Rattle.pcc_stages.specs.declared.agent_stop.AgentStop.TheVariants.{BadPackets}
 use Rattle.pcc_stages.specs.declared.files.TheConstants.{MAX_FILE}
 use Rattle.pcc_stages.specs.declared.refused_line.RefusedLine.TheVariants.{OfAgent}

@@ -1,8 +1,8 @@
 use Rattle.std.proofs.Common.{List, [], Ok, Err, ap, sym, arith}
 use Rattle.std.proofs.lemmas.List.{length-map}
 use Rattle.agent_script.specs.Scripts.{ScriptView, load_view, script_view}
-use Rattle.pcc_exit.specs.Stages.{Stage, ◌>>=◌}
-use Rattle.pcc_exit.specs.Runs.{Effect}
+use Rattle.pcc_stages.specs.Stage.{Stage, ◌>>=◌}
+use Rattle.pcc_stages.specs.Runs.{Effect}
 use Rattle.pcc_stages.specs.declared.stops.Stop.TheVariants.{Memory}
 use Rattle.pcc_stages.specs.Stages.Common.{printing}
 use Rattle.pcc_stages.proofs.StageLemmas.{lifted, stops_first, gives_then}

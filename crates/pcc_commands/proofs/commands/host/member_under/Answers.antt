@@ -2,7 +2,7 @@ use Rattle.std.proofs.Common.{ℕ, Ok, Vec, Global, sym, ap, subst, Err, refl}
 use Rattle.policy_set.specs.Views.{PolicyView}
 use Rattle.pcc_gate.specs.Views.{AcceptedView}
 use Rattle.agent_script.specs.Scripts.{load_view}
-use Rattle.pcc_exit.specs.Stages.{gives}
+use Rattle.pcc_stages.specs.Stage.{gives}
 use Rattle.pcc_stages.proofs.StageLemmas.{lifted, stops_first, gives_then}
 use Rattle.pcc_commands.specs.declared.commands.host.Admitted.{Admitted}
 use Rattle.pcc_commands.specs.Stages.Judging.{accepted_code_of}

@@ -1,5 +1,5 @@
 use Rattle.std.proofs.Common.{ℕ, List, Vec, Global, subst}
-use Rattle.pcc_exit.specs.Stages.{◌>>=◌}
+use Rattle.pcc_stages.specs.Stage.{◌>>=◌}
 use Rattle.pcc_stages.proofs.StageLemmas.{stops_first}
 use Rattle.pcc_commands.specs.Stages.Writing.{writing}
 use Rattle.pcc_commands.specs.Stages.Upgrading.{upgraded_of}

@@ -3,7 +3,7 @@ use Rattle.std.specs.Vec.{with_items}
 use Rattle.std.proofs.lemmas.List.{with_items_is}
 use Rattle.alpha_words.specs.declared.insn.Insn.{Insn}
 use Rattle.alpha_cfg.specs.Machine.{run_of}
-use Rattle.part_runs.specs.Parts.{ReturnedInBound}
+use Rattle.host_steps.specs.Parts.{ReturnedInBound}
 use Rattle.safe_host.specs.Hosts.{HostView}
 use Rattle.safe_host.specs.Runs.{IsRun, outcome_of}
 use Rattle.safe_host.specs.Inside.Fields.{host_view, HasRightsBefore}

@@ -1,5 +1,5 @@
 use Rattle.std.proofs.Common.{ℕ, List, Vec, Global, subst}
-use Rattle.pcc_exit.specs.Stages.{gives}
+use Rattle.pcc_stages.specs.Stage.{gives}
 use Rattle.pcc_stages.specs.Answers.{GivesPure}
 use Rattle.pcc_stages.proofs.StageLemmas.{lifted, stops_first, gives_then}
 use Rattle.view_cli.specs.Commands.Faults.{text_of, formula_exit, formula_command}

@@ -1,6 +1,6 @@
 use Rattle.std.proofs.Common.{ℕ, List, ap}
-use Rattle.pcc_exit.specs.Runs.{done_exit}
-use Rattle.pcc_exit.specs.Stages.{gives}
+use Rattle.pcc_stages.specs.Runs.{done_exit}
+use Rattle.pcc_stages.specs.Stage.{gives}
 use Rattle.view_cli.proofs.Lemmas.{told-text, told-no-fault}
 use Rattle.view_cli.proofs.commands.list.listed.Goals as goal
 

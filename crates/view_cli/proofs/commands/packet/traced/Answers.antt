@@ -1,7 +1,7 @@
 use Rattle.std.proofs.Common.{ℕ, List, Option, sym, ◌∙◌, ap}
-use Rattle.packet_trace.specs.Traces.{packet_text}
-use Rattle.pcc_exit.specs.Runs.{done_exit}
-use Rattle.pcc_exit.specs.Stages.{gives}
+use Rattle.view_trace.specs.Traces.{packet_text}
+use Rattle.pcc_stages.specs.Runs.{done_exit}
+use Rattle.pcc_stages.specs.Stage.{gives}
 use Rattle.view_cli.specs.Commands.Packet.{packet_exit}
 use Rattle.view_cli.proofs.commands.packet.traced.Goals as goal
 

@@ -1,0 +1,10 @@
+pub mod Characters
+pub mod Forms
+pub mod Returns
+pub mod Spelling
+pub mod Gathering
+pub mod Places
+pub mod Sourced
+pub mod Words
+pub mod Reading
+pub mod Printed

@@ -1,0 +1,15 @@
+pub mod Placed
+pub mod Encodable
+pub mod Leading
+pub mod Annotating
+pub mod Cutting
+pub mod Before
+pub mod Evaluated
+pub mod Starts
+pub mod Parts
+pub mod Whole
+pub mod FewEntries
+pub mod Subtrees
+pub mod Held
+pub mod Spine
+pub mod Bounded

@@ -1,0 +1,4 @@
+pub mod Invariants
+pub mod PartForms
+pub mod Condition
+pub mod Parts

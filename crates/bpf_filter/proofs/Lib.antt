@@ -1,3 +1,0 @@
-pub mod FilterStarts
-pub mod Shapes
-pub mod Unfolded

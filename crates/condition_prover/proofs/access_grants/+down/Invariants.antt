@@ -1,5 +1,0 @@
-use Rattle.std.proofs.Common.{length}
-use Rattle.condition_prover.proofs.access_grants.+down.Given as goal
-
-abbrev pub decreases-down : goal.decreases-down
-decreases-down l = length l.way.now

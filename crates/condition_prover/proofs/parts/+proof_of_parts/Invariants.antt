@@ -1,4 +1,0 @@
-use Rattle.condition_prover.proofs.parts.+proof_of_parts.Given as goal
-
-abbrev pub decreases-proof_of_parts : goal.decreases-proof_of_parts
-decreases-proof_of_parts l = l.condition

@@ -1,5 +1,0 @@
-use Rattle.std.proofs.Common.{length}
-use Rattle.container_listing.proofs.plain.+inv_entries.Given as goal
-
-abbrev pub decreases-inv_entries : goal.decreases-inv_entries
-decreases-inv_entries l = length l.invs.now

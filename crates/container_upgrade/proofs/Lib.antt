@@ -1,3 +1,0 @@
-pub mod Renamed
-pub mod Exactly
-pub mod Acceptance

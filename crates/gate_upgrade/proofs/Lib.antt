@@ -1,0 +1,5 @@
+pub mod Renamed
+pub mod Exactly
+pub mod Acceptance
+pub mod Profiles
+pub mod Weights

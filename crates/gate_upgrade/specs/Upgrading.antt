@@ -1,0 +1,93 @@
+-- Containers of version 1 as containers of version 2: the digest of the policy stands in place of
+-- its number, and all else stays. The tests stand in their order, and the first that fails is the
+-- answer.
+use Rattle.std.specs.Prelude.{◌≡◌, ℕ, ◌+◌, ◌==◌, nat_lt, if◌then◌else◌, List, [], length, Option, Some, None, Result, Ok, Err}
+use Rattle.term_table.specs.Steps.{◌>>=◌}
+use Rattle.policy_set.specs.declared.kind.PolicyKind.{PolicyKind}
+use Rattle.policy_set.specs.declared.kind.PolicyKind.TheVariants.{Filter, Tag, Table}
+use Rattle.policy_set.specs.Views.{PolicyView, built_in}
+use Rattle.policy_set.specs.Digest.{digest_of}
+use Rattle.proof_container.specs.declared.container.Head.{Head}
+use Rattle.proof_container.specs.declared.container.Head.TheVariants.{Number, Digest}
+use Rattle.proof_container.specs.declared.limits.TheConstants.{MAX_BYTES}
+use Rattle.proof_container.specs.Contents.{Contents}
+use Rattle.proof_container.specs.Encoding.{encoding_of}
+use Rattle.proof_container.specs.Decoding.{Fault, decoded_container}
+use Rattle.gate_upgrade.specs.declared.fault.UpgradeFault.{UpgradeFault}
+use Rattle.gate_upgrade.specs.declared.fault.UpgradeFault.TheVariants as fault
+use Rattle.gate_upgrade.specs.declared.limits.TheConstants.{GROWTH}
+
+-- ---- the contents
+
+-- the kind of the built-in policy of a number
+abbrev pub kind_numbered : ℕ → Option PolicyKind
+kind_numbered n =
+    if n == 1 then Some Filter else
+    if n == 2 then Some Tag else
+    if n == 3 then Some Table else
+    None
+
+-- the contents as those of version 2, with the digest of the policy as head
+abbrev pub with_digest : PolicyView → Contents → Contents
+with_digest policy c = record {
+  version = 2;
+  head = Digest (digest_of policy);
+  bound = None;
+  code = c.code;
+  invs = c.invs;
+  lemmas = [];
+  proof = c.proof;
+}
+
+-- ---- the tests
+
+-- what was read as a container
+abbrev pub contents_found : Result Contents Fault → Result Contents UpgradeFault
+contents_found (Ok c) = Ok c
+contents_found (Err flaw) = Err (fault.Malformed flaw.0 flaw.1)
+
+-- what the bytes hold, where they aren't too many
+abbrev pub contents_in : List ℕ → Result Contents UpgradeFault
+contents_in bytes =
+    if nat_lt MAX_BYTES (length bytes)
+    then Err (fault.TooLong (length bytes))
+    else contents_found (decoded_container bytes)
+
+-- the number that a container names its policy by, which those of version 1 do, and no others
+abbrev pub number_in : Head → Result ℕ UpgradeFault
+number_in (Number n) = Ok n
+number_in (Digest d) = Err fault.Already
+
+-- the kind of the number, where there is one
+abbrev pub kind_found : ℕ → Option PolicyKind → Result PolicyKind UpgradeFault
+kind_found n (Some kind) = Ok kind
+kind_found n None = Err (fault.OtherPolicy n)
+
+-- a size that a container may have
+abbrev pub size_within : ℕ → Result ℕ UpgradeFault
+size_within n = if nat_lt MAX_BYTES n then Err (fault.TooBig n) else Ok n
+
+-- ---- the whole
+
+-- the container of version 2 with the contents of the one that the bytes are, or the first reason
+-- why there is none
+unfoldable pub upgraded_container : List ℕ → Result (List ℕ) UpgradeFault
+upgraded_container bytes = do
+  contents ← contents_in bytes
+  number ← number_in contents.head
+  kind ← kind_found number (kind_numbered number)
+  size ← size_within (length bytes + GROWTH)
+  Ok (encoding_of (with_digest (built_in kind) contents))
+
+-- ---- what answers of calls say
+
+-- an answer, seen by view, is what upgrading gives, unless memory ran out
+abbrev pub IsUpgraded : {X Y : Type 0} → (X → Y) → Result Y UpgradeFault → Result X UpgradeFault
+    → Type 0
+IsUpgraded view made (Ok x) = made ≡ Ok (view x)
+IsUpgraded view made (Err (fault.TooLong n)) = made ≡ Err (fault.TooLong n)
+IsUpgraded view made (Err (fault.Malformed offset flaw)) = made ≡ Err (fault.Malformed offset flaw)
+IsUpgraded view made (Err fault.Already) = made ≡ Err fault.Already
+IsUpgraded view made (Err (fault.OtherPolicy n)) = made ≡ Err (fault.OtherPolicy n)
+IsUpgraded view made (Err (fault.TooBig n)) = made ≡ Err (fault.TooBig n)
+IsUpgraded view made (Err fault.Memory) = Unit {0}

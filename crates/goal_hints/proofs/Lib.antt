@@ -1,3 +1,0 @@
-mod Growing
-mod Gathering
-mod Leading

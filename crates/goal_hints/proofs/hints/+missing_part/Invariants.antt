@@ -1,4 +1,0 @@
-use Rattle.goal_hints.proofs.hints.+missing_part.Given as goal
-
-abbrev pub decreases-missing_part : goal.decreases-missing_part
-decreases-missing_part l = l.goal

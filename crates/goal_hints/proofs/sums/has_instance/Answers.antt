@@ -1,6 +1,0 @@
-use Rattle.goal_proofs.proofs.Kept.{search-more}
-use Rattle.goal_hints.proofs.sums.has_instance.Goals as goal
-
-pub at_zero-requires-clause-search : goal.at_zero-requires-clause-search
-at_zero-requires-clause-search c =
-    search-more c.args.search.now c.args.table.now c.intern.new.self c.requires.search c.in_ok-zero.ensures.extends

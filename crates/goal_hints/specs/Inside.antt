@@ -1,4 +1,0 @@
--- Words of the private functions.
-pub mod Known
-pub mod Nearness
-pub mod Lasting

@@ -1,6 +1,0 @@
-use Rattle.std.proofs.Common.{◌≡◌, drop}
-use Rattle.goal_marks.specs.Marks.{all_true}
-use Rattle.goal_listing.proofs.parts.all_true.Given as goal
-
-abbrev pub invariant-loop-index : goal.invariant-loop-index
-invariant-loop-index l = all_true l.marks ≡ all_true (drop l.index l.marks)

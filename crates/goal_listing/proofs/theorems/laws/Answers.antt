@@ -1,7 +1,0 @@
-use Rattle.goal_listing.proofs.PartLists.{first-named}
-use Rattle.goal_listing.proofs.theorems.laws.Goals as goal
-
-pub returns : goal.returns
-returns c = record {
-  first = first-named c.laws.ensures.entry c.laws.ensures.invs c.mark_laws.ensures.first;
-}

@@ -1,3 +1,0 @@
-pub mod Wholes
-mod Pushing
-mod Descending

@@ -1,3 +1,0 @@
--- Words of the private functions.
-pub mod Shapes
-pub mod Marking

@@ -1,5 +1,0 @@
-use Rattle.goal_proofs.proofs.Rounds.{enough, by_found, by_absurdity, by_round}
-use Rattle.goal_proofs.proofs.theorems.round_laws.Goals as goal
-
-pub returns : goal.returns
-returns c = record { enough = enough; found = by_found; absurd = by_absurdity; shape = by_round }

@@ -1,7 +1,0 @@
-use Rattle.goal_proofs.proofs.WordRows.{on_ok, with_memo}
-use Rattle.goal_proofs.proofs.words.proof_by_normal.Goals as goal
-
-pub returns-clause-search : goal.returns-clause-search
-returns-clause-search c =
-    let n = c.proof_by_forms in
-    on_ok n.result (with_memo c.normal-2.new.table n.new.table c.normal-2.new.search n.new.memo c.in_ok-q.ensures.search n.ensures.extends n.ensures.memo)

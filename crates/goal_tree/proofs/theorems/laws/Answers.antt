@@ -1,5 +1,0 @@
-use Rattle.goal_tree.proofs.Asked.{asked-within, entry-is, inv-is}
-use Rattle.goal_tree.proofs.theorems.laws.Goals as goal
-
-pub returns : goal.returns
-returns c = record { conditions = asked-within; entry = entry-is; invs = inv-is }

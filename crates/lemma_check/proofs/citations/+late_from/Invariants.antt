@@ -1,5 +1,0 @@
-use Rattle.std.proofs.Common.{length}
-use Rattle.lemma_check.proofs.citations.+late_from.Given as goal
-
-abbrev pub decreases-late_from : goal.decreases-late_from
-decreases-late_from l = length l.lemmas.now

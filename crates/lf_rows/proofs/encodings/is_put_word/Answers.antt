@@ -1,5 +1,0 @@
-use Rattle.lf_rows.proofs.Copies.{copies-ready}
-use Rattle.lf_rows.proofs.encodings.is_put_word.Goals as goal
-
-pub is_put_with-requires-clause-ready : goal.is_put_with-requires-clause-ready
-is_put_with-requires-clause-ready c = copies-ready c.args.table.now c.args.word c.requires.word

@@ -1,5 +1,0 @@
-use Rattle.lf_rows.proofs.Copies.{copies-ready}
-use Rattle.lf_rows.proofs.encodings.put_word.Goals as goal
-
-pub put-requires-clause-ready : goal.put-requires-clause-ready
-put-requires-clause-ready c = copies-ready c.args.table.now c.args.word c.requires.word

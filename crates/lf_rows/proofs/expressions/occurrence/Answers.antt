@@ -1,5 +1,0 @@
-use Rattle.std.proofs.Common.{[]}
-use Rattle.lf_rows.proofs.expressions.occurrence.Goals as goal
-
-pub occurs-requires-clause-kept : goal.occurs-requires-clause-kept
-occurs-requires-clause-kept c = c.new-kept.ensures [] c.args.table.now

@@ -1,5 +1,0 @@
-use Rattle.std.proofs.Common.{length}
-use Rattle.lf_rows.proofs.lemmas.+ids_known.Given as goal
-
-abbrev pub decreases-ids_known : goal.decreases-ids_known
-decreases-ids_known l = length l.lemmas.now

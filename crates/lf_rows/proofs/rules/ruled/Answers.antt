@@ -1,5 +1,0 @@
-use Rattle.lf_signature.specs.Constants.{declared}
-use Rattle.lf_rows.proofs.rules.ruled.Goals as goal
-
-pub by_number-requires-clause-kept : goal.by_number-requires-clause-kept
-by_number-requires-clause-kept c = c.new-kept.ensures.kept (declared c.args.sig.now) c.args.table.now

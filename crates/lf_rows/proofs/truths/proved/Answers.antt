@@ -1,6 +1,0 @@
-use Rattle.lf_signature.specs.Constants.{declared}
-use Rattle.lf_rows.proofs.truths.proved.Goals as goal
-use Rattle.lf_signature.specs.declared.WordSignature.TheVariants.{Sigma1}
-
-pub proved_formula_with-requires-clause-kept : goal.proved_formula_with-requires-clause-kept
-proved_formula_with-requires-clause-kept c = c.new-kept.ensures.kept (declared Sigma1) _

@@ -1,2 +1,0 @@
-pub mod AccountLemmas
-pub mod RunLemmas

@@ -1,0 +1,58 @@
+use Rattle.std.proofs.Common.{[], ◌∷◌, IfOk, subst}
+use Rattle.word_ops.specs.declared.Op.TheVariants.{Add}
+use Rattle.lf_signature.specs.Nodes.{IsIdOf}
+use Rattle.lf_terms.specs.Encoding.{exp_encoding}
+use Rattle.prover_class.specs.Bounds.{folded}
+use Rattle.prover_bounds.specs.BoundIds.{IsBoundOf}
+use Rattle.prover_ids.proofs.Standing.{own, stands, more, twice, ruled}
+use Rattle.hereditary_subst.proofs.Rows.{known-more, memo-more}
+use Rattle.prover_bounds.proofs.parts.by_sum.Goals as goal
+
+pub returns-clause-is : goal.returns-clause-is
+returns-clause-is c = λ z x y qe qa qb.
+    let t = c.args.table.now in
+    let e2 = c.in_ok-left.ensures.extends in
+    let e3 = c.in_ok-right.ensures.extends in
+    let x3 = twice (twice c.in_ok-fits.ensures.extends e2) e3 in
+    let a = stands t (exp_encoding x) c.args.a c.requires.a qa in
+    let b = stands t (exp_encoding y) c.args.b c.requires.b qb in
+    let e = stands t (exp_encoding z) c.args.e c.requires.e qe in
+    let v = own t c.args.v.proof c.requires.v in
+    let w = own t c.args.w.proof c.requires.w in
+    let p =
+    ruled (λ u. IsIdOf c.rule_term.new.table u c.in_ok-proof.proof) 72
+    (λ i. (more a x3).is i ∷ (more b x3).is i ∷ (more c.in_ok-left.ensures.known e3).is i ∷ c.in_ok-right.ensures.known.is i ∷ (more v x3).is i ∷ (more w x3).is i ∷ (more c.in_ok-fits.ensures.id (twice e2 e3)).is i ∷ []) c.in_ok-proof.ensures.id in
+    subst (λ u. IfOk c.folded.result (IsBoundOf c.folded.new.table (folded z Add c.args.v.value c.args.w.value u))) p.is (c.folded.ensures.is z (more e (twice x3 c.in_ok-proof.ensures.extends)).is)
+
+pub returns-in_err-left-clause-extends : goal.returns-in_err-left-clause-extends
+returns-in_err-left-clause-extends c = twice c.in_ok-fits.ensures.extends c.word.ensures.extends
+
+pub returns-in_err-left-clause-memo : goal.returns-in_err-left-clause-memo
+returns-in_err-left-clause-memo c = memo-more _ _ _ c.in_ok-fits.ensures.memo c.word.ensures.extends
+
+pub returns-in_err-right-clause-extends : goal.returns-in_err-right-clause-extends
+returns-in_err-right-clause-extends c = twice (twice c.in_ok-fits.ensures.extends c.in_ok-left.ensures.extends) c.word-2.ensures.extends
+
+pub returns-in_err-right-clause-memo : goal.returns-in_err-right-clause-memo
+returns-in_err-right-clause-memo c = memo-more _ _ _ c.in_ok-fits.ensures.memo (twice c.in_ok-left.ensures.extends c.word-2.ensures.extends)
+
+pub returns-in_err-proof-clause-extends : goal.returns-in_err-proof-clause-extends
+returns-in_err-proof-clause-extends c = twice (twice (twice c.in_ok-fits.ensures.extends c.in_ok-left.ensures.extends) c.in_ok-right.ensures.extends) c.rule_term.ensures.extends
+
+pub returns-in_err-proof-clause-memo : goal.returns-in_err-proof-clause-memo
+returns-in_err-proof-clause-memo c = memo-more _ _ _ c.in_ok-fits.ensures.memo (twice (twice c.in_ok-left.ensures.extends c.in_ok-right.ensures.extends) c.rule_term.ensures.extends)
+
+pub rule_term-requires : goal.rule_term-requires
+rule_term-requires c = (known-more _ _ _ c.requires.a (twice (twice c.in_ok-fits.ensures.extends c.in_ok-left.ensures.extends) c.in_ok-right.ensures.extends), (known-more _ _ _ c.requires.b (twice (twice c.in_ok-fits.ensures.extends c.in_ok-left.ensures.extends) c.in_ok-right.ensures.extends), (known-more _ _ _ c.in_ok-left.ensures.known.known c.in_ok-right.ensures.extends, (c.in_ok-right.ensures.known.known, (known-more _ _ _ c.requires.v (twice (twice c.in_ok-fits.ensures.extends c.in_ok-left.ensures.extends) c.in_ok-right.ensures.extends), (known-more _ _ _ c.requires.w (twice (twice c.in_ok-fits.ensures.extends c.in_ok-left.ensures.extends) c.in_ok-right.ensures.extends), (known-more _ _ _ c.in_ok-fits.ensures.id.known (twice c.in_ok-left.ensures.extends c.in_ok-right.ensures.extends), tt)))))))
+
+pub folded-requires-clause-e : goal.folded-requires-clause-e
+folded-requires-clause-e c = known-more _ _ _ c.requires.e (twice (twice (twice c.in_ok-fits.ensures.extends c.in_ok-left.ensures.extends) c.in_ok-right.ensures.extends) c.in_ok-proof.ensures.extends)
+
+pub folded-requires-clause-proof : goal.folded-requires-clause-proof
+folded-requires-clause-proof c = c.in_ok-proof.ensures.id.known
+
+pub folded-requires-clause-memo : goal.folded-requires-clause-memo
+folded-requires-clause-memo c = memo-more _ _ _ c.in_ok-fits.ensures.memo (twice (twice c.in_ok-left.ensures.extends c.in_ok-right.ensures.extends) c.in_ok-proof.ensures.extends)
+
+pub returns-clause-extends : goal.returns-clause-extends
+returns-clause-extends c = twice (twice (twice (twice c.in_ok-fits.ensures.extends c.in_ok-left.ensures.extends) c.in_ok-right.ensures.extends) c.in_ok-proof.ensures.extends) c.folded.ensures.extends

@@ -1,0 +1,16 @@
+use Rattle.std.proofs.Common.{take, ◌+◌, ◌≤◌}
+use Rattle.term_table.specs.Table.{Extends}
+use Rattle.hereditary_subst.specs.Kept.{IsMemo}
+use Rattle.hereditary_subst.specs.Limits.{left_of}
+use Rattle.prover_ids.specs.Hypotheses.{AreKnownHyps, AreHyps}
+use Rattle.prover_class.specs.Hypotheses.{Hyps, raised_hyps}
+use Rattle.prover_hyps.proofs.raising.raised_hyps.Given as goal
+
+abbrev pub invariant-loop-i : goal.invariant-loop-i
+invariant-loop-i l = record {
+  known : AreKnownHyps l.table l.under;
+  extends : Extends l.fn.table l.table;
+  memo : IsMemo l.table l.memo;
+  left : left_of l.memo + l.i ≤ left_of l.fn.memo;
+  exact : (Γ : Hyps) → AreHyps l.fn.table (take l.i l.list) Γ → AreHyps l.table l.under (raised_hyps Γ);
+}

@@ -1,8 +1,0 @@
-use Rattle.std.proofs.Common.{◌≡◌, ◌++◌, map, drop}
-use Rattle.source_text.specs.Listing.{Note, lines_text}
-use Rattle.source_text.proofs.printing.push_notes.Given as goal
-
-abbrev pub invariant-loop-note : goal.invariant-loop-note
-invariant-loop-note l =
-    l.out.items ++ lines_text (map Note (map (λ v. v.items) (drop l.note-index l.notes)))
-    ≡ l.initial.out.items ++ lines_text (map Note (map (λ v. v.items) l.notes))

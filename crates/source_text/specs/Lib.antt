@@ -1,4 +1,0 @@
-pub mod Listing
-pub mod Views
-pub mod Laws
-pub mod Targets

@@ -1,8 +1,0 @@
-use Rattle.std.proofs.Common.{◌+◌, ◌*◌}
-use Rattle.sum_proofs.proofs.rewriting.+redex.Given as goal
-
-abbrev pub decreases-redex : goal.decreases-redex
-decreases-redex l = 2 * l.e + 1
-
-abbrev pub decreases-redex_of_parts : goal.decreases-redex_of_parts
-decreases-redex_of_parts l = 2 * l.e

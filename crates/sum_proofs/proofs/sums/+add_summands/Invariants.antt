@@ -1,4 +1,0 @@
-use Rattle.sum_proofs.proofs.sums.+add_summands.Given as goal
-
-abbrev pub decreases-add_summands : goal.decreases-add_summands
-decreases-add_summands l = l.e

@@ -1,5 +1,0 @@
-use Rattle.std.proofs.Common.{length}
-use Rattle.sum_proofs.proofs.sums.+sum_id.Given as goal
-
-abbrev pub decreases-sum_id : goal.decreases-sum_id
-decreases-sum_id l = length l.summands.now

@@ -1,4 +1,0 @@
-use Rattle.sum_proofs.proofs.sums.+summand_count.Given as goal
-
-abbrev pub decreases-summand_count : goal.decreases-summand_count
-decreases-summand_count l = l.e

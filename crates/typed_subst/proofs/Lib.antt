@@ -1,3 +1,0 @@
-pub mod SimpleSubst
-mod SimpleTotal
-mod Substitution

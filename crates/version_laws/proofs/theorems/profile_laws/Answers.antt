@@ -1,5 +1,0 @@
-use Rattle.version_laws.proofs.Profiles.{encodes-later, decoded-later, code-later}
-use Rattle.version_laws.proofs.theorems.profile_laws.Goals as goal
-
-pub returns : goal.returns
-returns c = record { words = encodes-later; reads = decoded-later; code = code-later }

@@ -1,0 +1,10 @@
+pub mod Lists
+pub mod Lines
+pub mod Heights
+pub mod Shorts
+pub mod Stages
+pub mod Comments
+pub mod Listed
+pub mod Found
+pub mod Assembled
+pub mod Words

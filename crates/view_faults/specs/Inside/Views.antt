@@ -1,0 +1,22 @@
+-- What calls give, as definitions see it.
+use Rattle.std.specs.Prelude.{◌≡◌, ℕ, ◌≤◌, List, length, Option, Some, None, Result, Ok, Err}
+use Rattle.alpha_words.specs.declared.insn.Insn.{Insn}
+use Rattle.formula_text.specs.declared.fault.TextFault.{TextFault}
+use Rattle.formula_text.specs.declared.fault.TextFault.TheVariants as F
+use Rattle.pcc_asm.specs.declared.fault.AsmFlaw.{AsmFlaw}
+use Rattle.view_faults.specs.declared.marking.Span as code
+use Rattle.view_faults.specs.Marking.{Span}
+
+-- a span as a place and a count
+abbrev pub span_view : code.Span → Span
+span_view s = (s.at, s.count)
+
+-- the place of the fault lies in the text or at its end
+abbrev pub IsInText : List ℕ → TextFault → Type 0
+IsInText text (F.At p flaw) = p ≤ length text
+IsInText text F.Memory = Unit {0}
+
+-- the code is made, or this is why it isn't
+abbrev pub IsCodeAnswer : Result (List Insn) AsmFlaw → Option AsmFlaw → Type 0
+IsCodeAnswer made None = (insns : List Insn) × (made ≡ Ok insns)
+IsCodeAnswer made (Some flaw) = made ≡ Err flaw

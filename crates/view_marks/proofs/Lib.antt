@@ -1,0 +1,6 @@
+pub mod Wholes
+mod Pushing
+mod Descending
+mod Growing
+mod Gathering
+mod Leading

@@ -1,0 +1,11 @@
+use Rattle.view_marks.proofs.Leading.{missing-hard, bounds-hard, at_most-hard}
+use Rattle.view_marks.proofs.theorems.hint_laws.Goals as goal
+
+pub returns-clause-missing : goal.returns-clause-missing
+returns-clause-missing c = let r = c.round_laws.ensures in missing-hard r.found r.absurd r.shape
+
+pub returns-clause-bounds : goal.returns-clause-bounds
+returns-clause-bounds c = let r = c.round_laws.ensures in bounds-hard r.found r.absurd r.shape
+
+pub returns-clause-at_most : goal.returns-clause-at_most
+returns-clause-at_most c = let r = c.round_laws.ensures in at_most-hard r.found r.absurd r.shape

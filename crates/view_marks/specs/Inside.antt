@@ -1,0 +1,6 @@
+-- Words of the private functions.
+pub mod Shapes
+pub mod Marking
+pub mod Known
+pub mod Nearness
+pub mod Lasting

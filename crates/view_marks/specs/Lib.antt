@@ -1,0 +1,4 @@
+pub mod Marks
+pub mod Inside
+pub mod Hints
+pub mod Answers

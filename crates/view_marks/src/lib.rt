@@ -1,0 +1,26 @@
+//! Marks each goal of a verification condition as provable by `prove` or not, and finds what's
+//! missing.
+//!
+//! `marks_of` returns one mark for each goal of a part, in order: true if the class of easy
+//! conditions proves the goal, or what it is part of, under the goal's hypotheses (`specs/Marks`).
+//! A part has a proof in the class exactly if all its marks are true (`mark_laws`).
+//!
+//! `missing_of` returns, for whatever formulas the ids encode, the first conjunct of the goal that
+//! isn't easy under the hypotheses, and a hint about it (`specs/Hints`). The hint is the bounds of
+//! both sides of a comparison, or the hypotheses that give rights to addresses with equal summands.
+//! `hint_laws` says what they mean.
+//!
+//! Source: Necula, Proof-Carrying Code, POPL 1997 (the rules); the search and the hints are this
+//! project's own.
+#![tactic(auto)]
+
+mod hints;
+mod marking;
+mod nearness;
+mod reached;
+mod sums;
+mod theorems;
+
+pub use hints::{Hint, Missing, missing_of};
+pub use marking::{PART_BINDERS, marks_of};
+pub use theorems::{hint_laws, mark_laws};

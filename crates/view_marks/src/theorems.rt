@@ -1,0 +1,49 @@
+//! Theorems about the marks of parts; nothing here runs.
+
+ghost use Rattle.std.specs.Prelude.{◌≡◌, ℕ, Bool, List, Option, map, length, is_some, ◌≤◌, ◌<◌};
+ghost use Rattle.std.specs.Prelude.{false};
+ghost use Rattle.prover_class.specs.Parts.{part_proof, first_not_easy};
+ghost use Rattle.view_goals.specs.Goals.{Part};
+ghost use Rattle.view_marks.specs.Marks.{part_form, part_marks, count_of, all_true, first_unmarked};
+ghost use Rattle.view_marks.specs.Marks.{is_easy};
+ghost use Rattle.word_ops.specs.declared.Rel.TheVariants.{Ult, Ule};
+ghost use Rattle.formula_tree.specs.Formulas.{Exp, Form, FRel};
+ghost use Rattle.prover_class.specs.Hypotheses.{Hyps};
+ghost use Rattle.prover_class.specs.Bounds.{upper_bound, lower_bound};
+ghost use Rattle.view_marks.specs.declared.marking.TheConstants.{PART_BINDERS};
+ghost use Rattle.view_marks.specs.Hints.{missing_part};
+
+use prover_goals::round_laws;
+
+/// States what marks say. A part has a proof in the class of easy conditions exactly if each of its
+/// goals is marked as easy (`part`), so the first part that isn't easy is the first part with a
+/// goal that isn't marked (`first`). There is one mark for each goal (`length`).
+pub fn mark_laws()
+    ensures part { (bound : Option ℕ) (p : Part) → let counted = is_some bound in
+        is_some (part_proof counted (part_form bound p)) ≡ all_true (part_marks counted p) }
+    ensures first { (bound : Option ℕ) (n : ℕ) (parts : List Part) → let counted = is_some bound in
+        first_not_easy counted n (map (part_form bound) parts)
+        ≡ first_unmarked n (map (part_marks counted) parts) }
+    ensures length { (counted : Bool) (p : Part)
+        → length (part_marks counted p) ≡ count_of p.goals }
+{
+    round_laws();
+}
+
+/// States what a hint means. The missing conjunct of a goal that isn't easy isn't easy itself
+/// (`missing`). If `(ult a b)` isn't easy, the upper bound found for `a` isn't below the lower
+/// bound found for `b` (`bounds`). If `(ule a b)` isn't easy, the upper bound found for `a` is
+/// above the lower bound found for `b` (`at_most`).
+pub fn hint_laws()
+    ensures missing { (counted : Bool) (Γ : Hyps) (A : Form)
+        → is_easy counted PART_BINDERS Γ A ≡ false
+        → is_easy counted PART_BINDERS Γ (missing_part counted Γ A) ≡ false }
+    ensures bounds { (counted : Bool) (Γ : Hyps) (a b : Exp)
+        → is_easy counted PART_BINDERS Γ (FRel Ult a b) ≡ false
+        → (lower_bound counted Γ b).value ≤ (upper_bound Γ a).value }
+    ensures at_most { (counted : Bool) (Γ : Hyps) (a b : Exp)
+        → is_easy counted PART_BINDERS Γ (FRel Ule a b) ≡ false
+        → (lower_bound counted Γ b).value < (upper_bound Γ a).value }
+{
+    round_laws();
+}

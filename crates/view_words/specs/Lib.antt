@@ -1,2 +1,0 @@
-pub mod Invocations
-pub mod Commands
