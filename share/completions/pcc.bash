@@ -30,6 +30,19 @@ _pcc_count() {
   done
 }
 
+# Gives the files whose names begin with $1, each with `@` before it.
+_pcc_policy_files() {
+  local path
+  while IFS= read -r path; do
+    if [ -d "$path" ]; then
+      path+=/
+      compopt -o nospace 2>/dev/null
+    fi
+    printf -v path '@%q' "$path"
+    COMPREPLY+=("$path")
+  done < <(compgen -f -- "$1")
+}
+
 _pcc() {
   local words kinds=() flags= values is_value current kind given
   COMPREPLY=()
@@ -64,8 +77,7 @@ _pcc() {
   esac
   compopt +o default 2>/dev/null
   if [ "$kind" = policy_or_file ] && [ "${current:0:1}" = @ ]; then
-    compopt -o filenames 2>/dev/null
-    mapfile -t COMPREPLY < <(compgen -f -P @ -- "${current:1}")
+    _pcc_policy_files "${current:1}"
   else
     mapfile -t COMPREPLY < <(compgen -W "$given" -- "$current")
   fi
