@@ -1,7 +1,7 @@
-"""The forms of the programs' command lines, from the pages and texts that have them: what man pages and completions say.
+"""The forms of the programs' command lines, for man pages and completions: see tools/manual.
 
-`docs/FORMATS.md` has pcc's forms, in the first block below "Command line". The help text of pcc_view has its own, with
-a text for each command. `share/words.tsv` has the texts of pcc's commands and of the flags.
+docs/FORMATS.md has pcc's forms, in the first block below "Command line". The help text of pcc_view has its own, with a
+text for each command. share/words.tsv has the texts of pcc's commands and of the flags.
 """
 import os
 import re
@@ -10,7 +10,7 @@ from typing import Dict, List, NamedTuple, Optional, Tuple
 TOP = os.path.dirname(os.path.dirname(os.path.abspath(__file__)))
 POLICIES = ["filter", "tag", "table"]
 HELP_SOURCE = "crates/view_cli/src/texts.rt"
-FLAG = re.compile(r"\[(--[a-z0-9]+)(?: ([A-Z]+))?\]")  # as it stands in a form
+FLAG = re.compile(r"\[(--[a-z0-9]+)(?: ([A-Z]+))?\]")  # as a form has it
 
 
 class Fault(Exception):
@@ -44,7 +44,7 @@ class Command(NamedTuple):
 
 
 class Program(NamedTuple):
-    """A program with its commands, in the order in which they stand where they are told."""
+    """A program with its commands, in the order of the text that lists them."""
 
     name: str
     commands: List[Command]
@@ -93,7 +93,7 @@ def help_text() -> str:
     return joined.encode().decode("unicode_escape")
 
 
-def joined_forms(lines: List[str], texts: Dict[str, str], where: str, takes_file: bool) -> List[Command]:
+def commands_of(lines: List[str], texts: Dict[str, str], where: str, takes_file: bool) -> List[Command]:
     """Returns the commands of forms, each with all that begin with it. A form with `@NAME` says that a policy may be a
     file's; with `takes_file` every policy may be.
     """
@@ -113,11 +113,11 @@ def pcc() -> Program:
     if not block:
         raise Fault('docs/FORMATS.md: no block of forms below "Command line"')
     lines = [line[len("pcc "):] for line in block[1].splitlines() if line.startswith("pcc ")]
-    commands = joined_forms(lines, words("pcc"), "docs/FORMATS.md and share/words.tsv", False)
+    commands = commands_of(lines, words("pcc"), "docs/FORMATS.md and share/words.tsv", False)
     return Program("pcc", commands, {}, [])
 
 
-def told(line: str) -> Optional[Tuple[str, str]]:
+def form_of(line: str) -> Optional[Tuple[str, str]]:
     """Returns the form and the text of a line of the help, if it has a form. The text may follow on the next line."""
     found = re.fullmatch(r"pcc_view ([a-z].*?)(?:  +(.*))?", line)
     return (found[1], found[2] or "") if found else None
@@ -129,14 +129,14 @@ def pcc_view() -> Program:
     lines: List[str] = []
     texts: Dict[str, str] = {}
     for line in head.splitlines():
-        form = told(line)
+        form = form_of(line)
         if form:
             lines.append(form[0])
             texts[form[0].split()[0]] = form[1]
         elif line.startswith("  ") and lines:
             texts[lines[-1].split()[0]] = line.strip()
     examples = [line for line in tail.splitlines() if line.startswith("pcc_view ")]
-    commands = joined_forms(lines, texts, HELP_SOURCE, "@NAME" in tail)
+    commands = commands_of(lines, texts, HELP_SOURCE, "@NAME" in tail)
     return Program("pcc_view", commands, words("pcc_view"), examples)
 
 

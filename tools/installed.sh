@@ -36,7 +36,7 @@ read_list() {
       folder) listed_folders+=("$path") ;;
       *) continue ;;
     esac
-    is_of_prefix "$kind" "$path" || fail "$list names $path, but is for ${prefix:-/}; give the prefix of the install"
+    is_of_prefix "$kind" "$path" || fail "$list isn't of an install to ${prefix:-/}: it names $path; give that prefix"
   done <"$list"
 }
 
