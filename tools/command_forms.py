@@ -62,7 +62,7 @@ def read(path: str) -> str:
 
 
 def version() -> str:
-    """Returns the version: the first line that `pcc_view --version` prints, which the gate compares with the program."""
+    """Returns the version that `pcc_view --version` prints. The gate compares this file with what it prints."""
     words = read("crates/view_main/stdout").split()
     if words[:1] != ["pcc_view"] or not re.fullmatch(r"\d+\.\d+\.\d+", words[1]):
         raise Fault("crates/view_main/stdout: the first line isn't `pcc_view N.N.N`")

@@ -53,4 +53,4 @@ complete -c pcc_view -n '__pcc_view_at source 0' -F
 complete -c pcc_view -n '__fish_seen_subcommand_from source' -l v2 -d 'version 2 of the container, with the instructions of profile 2'
 complete -c pcc_view -n '__fish_seen_subcommand_from source' -l bound -x -d 'version 3 of the container, with the bound N on its steps'
 complete -c pcc_view -n __fish_use_subcommand -l help -d 'print the forms of the commands, with examples'
-complete -c pcc_view -n __fish_use_subcommand -l version -d 'print the version, and which versions of containers it reads'
+complete -c pcc_view -n __fish_use_subcommand -l version -d 'print the version, and which containers it reads'
