@@ -102,7 +102,7 @@ def commands_of(lines: List[str], texts: Dict[str, str], where: str, takes_file:
         forms.setdefault(line.split()[0], []).append(line)
     missing = set(forms) ^ set(texts)
     if missing:
-        raise Fault("%s: no form, or no text, of %s" % (where, ", ".join(sorted(missing))))
+        raise Fault("a command needs a form and a text in %s: %s" % (where, ", ".join(sorted(missing))))
     return [Command(name, own, texts[name], takes_file or any("@NAME" in form for form in own))
             for name, own in forms.items()]
 
