@@ -1,0 +1,76 @@
+# Sourced by pcc, pcc_view, tools/build and tools/install: where the repository is, and whether a program there is
+# proved and current. It starts one process, `find`, so that a command which is built costs little more than itself.
+
+# Sets `top`, the repository's folder, from the path of a script that is in it or in its tools/. Follows links; starts
+# a process only for a link.
+find_top() { # SELF
+  local self=$1
+  [ -L "$self" ] && self=$(readlink -f -- "$self")
+  case $self in */*) top=${self%/*} ;; *) top=. ;; esac
+  case $top in /*) ;; .) top=$PWD ;; *) top=$PWD/${top#./} ;; esac
+  [ -f "$top/crates.txt" ] || top=${top%/*}
+}
+
+# Sets `program`, `crate` and `binary` for pcc or pcc_view. Needs `top`.
+set_program() { # pcc|pcc_view
+  program=$1
+  case $program in
+    pcc) crate=pcc_main ;;
+    pcc_view) crate=view_main ;;
+    *) echo "$program is no program of this repository: give pcc or pcc_view" >&2; return 2 ;;
+  esac
+  binary=$top/crates/$crate/out/$crate
+}
+
+# Sets `crates` to `crate` and all crates below it, by crates.txt. A library that has no line there is the toolchain's.
+find_crates() {
+  local -A below=() seen=([$crate]=1)
+  local lines line name at
+  mapfile -t lines <"$top/crates.txt"
+  for line in "${lines[@]}"; do
+    line=${line%%#*}
+    name=${line%%:*}
+    [ "$name" = "$line" ] || below[${name%% *}]=${line#*:}
+  done
+  crates=("$crate")
+  for ((at = 0; at < ${#crates[@]}; at++)); do
+    for name in ${below[${crates[at]}]-}; do
+      [[ ${seen[$name]-} || ! ${below[$name]+set} ]] || { seen[$name]=1; crates+=("$name"); }
+    done
+  done
+}
+
+# Sets `folders` to what the program is made of: src/ and specs/ of its crates. To find them takes bash some 10 ms, so
+# they are kept in out/, and found again once crates.txt is newer.
+find_folders() {
+  local kept=$top/out/build/$crate.folders crates name
+  if [ -f "$kept" ] && [ ! "$top/crates.txt" -nt "$kept" ]; then
+    mapfile -t folders <"$kept"
+    return
+  fi
+  find_crates
+  folders=()
+  for name in "${crates[@]}"; do
+    folders+=("crates/$name/src")
+    [ -d "$top/crates/$name/specs" ] && folders+=("crates/$name/specs")
+  done
+  # (in a checkout that can't be written they are found each time)
+  { mkdir -p "${kept%/*}" && printf '%s\n' "${folders[@]}" >"$kept.$$" && mv -f "$kept.$$" "$kept"; } 2>/dev/null
+}
+
+# Succeeds if the proved program is there, and nothing that it is made of is newer: crates.txt, and src/ and specs/ of
+# its crates. Their folders count too, so a removed file is seen. Needs what set_program sets.
+#
+# The program's own time is the mark. tools/build sets it to the begin of its build, so an edit during the build is seen.
+# A program that `rt ci` or `rt run` left here has the time of its end, which is accepted.
+#
+# It can be wrong: a file that replaces another and has an old time isn't seen (`cp -p`, `tar x`, `rsync -t`, a clock that
+# was set back), nor another toolchain. It doesn't look at proofs, on purpose: they don't change the program. `rt ci`
+# judges them.
+is_current() {
+  local folders
+  [ -x "$binary" ] || return 1
+  find_folders
+  # (what `find` can't read counts as newer, so its errors do too)
+  [ -z "$(cd "$top" && exec find crates.txt "${folders[@]}" -newer "$binary" -print -quit 2>&1)" ]
+}
