@@ -1,5 +1,5 @@
-# Sourced by pcc, pcc_view, tools/build and tools/install: where the repository is, and whether a program there is
-# proved and current. It starts one process, `find`, so that a command which is built costs little more than itself.
+# Sourced by pcc, pcc_view, tools/build and tools/install: where the repository is, and whether a program there is proved
+# and current. It starts one process, `find`, so a command that is built costs little more than itself.
 
 # Sets `top`, the repository's folder, from the path of a script that is in it or in its tools/. Follows links; starts
 # a process only for a link.
@@ -73,4 +73,14 @@ is_current() {
   find_folders
   # (what `find` can't read counts as newer, so its errors do too)
   [ -z "$(cd "$top" && exec find crates.txt "${folders[@]}" -newer "$binary" -print -quit 2>&1)" ]
+}
+
+# Runs a program with the words given: the proved one if it is current, else the sources without proofs.
+run_program() { # SELF pcc|pcc_view WORD..
+  find_top "$1"
+  set_program "$2" || exit
+  shift 2
+  is_current && exec "$binary" "$@"
+  command -v python3 >/dev/null || { echo "$program: there is no python3 on the path, which rt and tools/ need" >&2; exit 1; }
+  exec "$top/tools/try_pcc" --program "$program" -- "$@"
 }
