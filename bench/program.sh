@@ -1,7 +1,7 @@
-# Sourced by the other scripts of this folder, which set `top`: PCC is the program that is measured. Where it isn't
-# set, ./pcc builds the proved one, and PCC is that.
+# Sourced by the other scripts of this folder, which set `top`: PCC is the program that is measured. If it isn't set,
+# PCC is the proved pcc, which tools/build builds if it isn't current.
 if [ -z "${PCC-}" ]; then
-  "$top/pcc" check tag "$top/examples/tag/container" > /dev/null
+  "$top/tools/build" pcc > /dev/null || exit 1
   PCC=$top/crates/pcc_main/out/pcc_main
 fi
 PCC=$(realpath "$PCC")

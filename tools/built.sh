@@ -1,5 +1,5 @@
 # Sourced by pcc, pcc_view, tools/build and tools/install: where the repository is, and whether a program there is
-# proved and current. It starts one process, `find`, so that a command which is built costs little more than itself.
+# proved and current. It starts one process, `find`, so a command that is built costs little more than itself.
 
 # Sets `top`, the repository's folder, from the path of a script that is in it or in its tools/. Follows links; starts
 # a process only for a link.
@@ -61,16 +61,26 @@ find_folders() {
 # Succeeds if the proved program is there, and nothing that it is made of is newer: crates.txt, and src/ and specs/ of
 # its crates. Their folders count too, so a removed file is seen. Needs what set_program sets.
 #
-# The program's own time is the mark. tools/build sets it to the begin of its build, so an edit during the build is seen.
-# A program that `rt ci` or `rt run` left here has the time of its end, which is accepted.
+# The program's own time is the mark. tools/build sets it to the begin of its build, so an edit during the build is
+# seen. A program that `rt ci` or `rt run` left here has the time of its end, which is accepted.
 #
-# It can be wrong: a file that replaces another and has an old time isn't seen (`cp -p`, `tar x`, `rsync -t`, a clock that
-# was set back), nor another toolchain. It doesn't look at proofs, on purpose: they don't change the program. `rt ci`
-# judges them.
+# It can be wrong: a file that replaces another and has an old time isn't seen (`cp -p`, `tar x`, `rsync -t`, a clock
+# that was set back), nor is another toolchain. It doesn't look at proofs, on purpose: they don't change the program.
+# `rt ci` judges them.
 is_current() {
   local folders
   [ -x "$binary" ] || return 1
   find_folders
   # (what `find` can't read counts as newer, so its errors do too)
   [ -z "$(cd "$top" && exec find crates.txt "${folders[@]}" -newer "$binary" -print -quit 2>&1)" ]
+}
+
+# Runs a program with the words given: the proved one if it is current, else the sources without proofs.
+run_program() { # SELF pcc|pcc_view WORD..
+  find_top "$1"
+  set_program "$2" || exit
+  shift 2
+  is_current && exec "$binary" "$@"
+  command -v python3 >/dev/null || { echo "$program: there is no python3 on the path, which rt needs" >&2; exit 1; }
+  exec "$top/tools/try_pcc" --program "$program" -- "$@"
 }
