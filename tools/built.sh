@@ -61,7 +61,7 @@ find_folders() {
 # Succeeds if the proved program is there, and nothing that it is made of is newer: crates.txt, and src/ and specs/ of
 # its crates. Their folders count too, so a removed file is seen. Needs what set_program sets.
 #
-# The program's own time is the mark. tools/build sets it to the begin of its build, so an edit during the build is
+# The program's own time is the mark. tools/build sets it to the start of its build, so an edit during the build is
 # seen. A program that `rt ci` or `rt run` left here has the time of its end, which is accepted.
 #
 # It can be wrong: a file that replaces another and has an old time isn't seen (`cp -p`, `tar x`, `rsync -t`, a clock
