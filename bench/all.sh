@@ -7,7 +7,7 @@
 # how the cost of check, prove, bpf and host grows where what they read doubles (bench/growth.py). What is
 # missing is told.
 #
-# PCC is the program that is measured; without it ./pcc builds the proved one and takes that. CC is the
+# PCC is the program that is measured; without it tools/build builds the proved one. CC is the
 # C compiler, cc without it; an empty CC leaves the native rows out. A line that isn't the one expected
 # ends the run with status 1.
 set -eu

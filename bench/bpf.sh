@@ -9,7 +9,7 @@
 # programs would have: with one load in place of two, a byte taken out by two words, a constant by as few
 # words as it needs, and no branch to the next block.
 #
-# PCC is the program that is measured; without it ./pcc builds the proved one and takes that. CC is the C
+# PCC is the program that is measured; without it tools/build builds the proved one. CC is the C
 # compiler, cc without it; an empty CC leaves libpcap out. A line that isn't the one expected ends the run
 # with status 1.
 set -eu

@@ -4,7 +4,7 @@
 # proofs, entries and bytes. They are the sources of three `demo N`, as `asm` and `prove` make them,
 # and examples/repeats, as its script does, which without lemmas is too heavy.
 #
-# PCC is the program that is measured; without it ./pcc builds the proved one and takes that. A line
+# PCC is the program that is measured; without it tools/build builds the proved one. A line
 # that isn't the one expected ends the run with status 1.
 set -eu
 top=$(cd "$(dirname "${BASH_SOURCE[0]}")/.." && pwd)

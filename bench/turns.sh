@@ -3,7 +3,7 @@
 # 100,000 steps each, beside `pcc run` of the same steps on one packet. Processor time, the least of sixty (of
 # five at 100,000 steps), less what the same script takes without turns, which is as much; output goes to /dev/null.
 #
-# PCC is the program that is measured; without it ./pcc builds the proved one and takes that.
+# PCC is the program that is measured; without it tools/build builds the proved one.
 set -eu
 top=$(cd "$(dirname "${BASH_SOURCE[0]}")/.." && pwd)
 work=$(mktemp -d)
