@@ -1,0 +1,3 @@
+# Policy table, rejected: the table may be empty.
+      ldq r0,0(r16)
+      ret
