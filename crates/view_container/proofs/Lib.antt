@@ -7,4 +7,4 @@ pub mod Comments
 pub mod Listed
 pub mod Found
 pub mod Assembled
-pub mod Words
+pub mod WrittenWords

@@ -15,7 +15,7 @@ use crate::changes::{push_change, register_written};
 use crate::texts::Texts;
 use alpha_cfg::{Code, Outcome, Step};
 use arrayvec::ArrayVec;
-use asm_print::{MAX_INSN_TEXT, laws};
+use asm_print::{MAX_INSN_TEXT, insn_laws};
 use file_port::{Put, Sink};
 use pcc_lines::{DIGITS, LINE, Line, push_decimal, push_text};
 use reference_machine::Agent;
@@ -47,7 +47,7 @@ fn push_step(line: &mut Line, agent: &mut Agent, code: &Code, texts: &Texts) -> 
         × (agent.new.region ≡ agent.old.region) }
     ensures within { agent.new.state.index < length code.now }
 {
-    laws(); // tells the prover that texts are short
+    insn_laws(); // tells the prover that texts are short
     let _some = code.count(); // tells the prover that this is code
     let index = agent.index();
     let insn = code.insn(index);

@@ -8,7 +8,7 @@ ghost use Rattle.view_trace.specs.Texts.{code_texts};
 
 use alpha_cfg::Code;
 use alpha_words::Insn;
-use asm_print::{laws, push_insn};
+use asm_print::{insn_laws, push_insn};
 use std::alloc::{AllocError, Global};
 use std::marker::Model;
 
@@ -43,7 +43,7 @@ impl Texts {
     pub fn of(alloc: Global, code: &Code) -> Result<Texts, AllocError>
         ensures { IfOk result (λ texts. texts ≡ code_texts code.now) }
     {
-        laws(); // tells the prover that code can be spelled
+        insn_laws(); // tells the prover that code can be spelled
         let mut texts = Vec::new(alloc);
         for i in 0..code.count() {
             let insn = code.insn(i);

@@ -9,7 +9,7 @@ use Rattle.pcc_asm.specs.Assembling.{plain_contents, assembled_code, assembled_c
 use Rattle.asm_print.specs.Listing.{no_extras, code_text, code_source}
 use Rattle.asm_print.specs.Laws.{IsSpellableCode, AreSpellableExtras}
 use Rattle.view_container.proofs.Assembled.{code_is, contents_are, plain_without, one_source}
-use Rattle.view_container.proofs.Words.{words_are}
+use Rattle.view_container.proofs.WrittenWords.{words_are}
 use Rattle.view_container.proofs.theorems.assembly_laws.Goals as goal
 
 pub returns : goal.returns

@@ -21,8 +21,8 @@ push_front-requires-clause-short c =
     let is : c.text-text.result.now ≡ insn_text index insn =
     text_at c.args.code.now c.args.texts.now index insn c.text-text.result.now c.requires.texts c.insn-insn.ensures.at
     c.text-text.ensures in
-    subst (λ (t : List ℕ). length t ≤ 21) (sym is) (c.laws.ensures.short index insn
-    (c.laws.ensures.code c.args.code.now index insn c.count-some.ensures.code c.insn-insn.ensures.at))
+    subst (λ (t : List ℕ). length t ≤ 21) (sym is) (c.insn_laws.ensures.short index insn
+    (c.insn_laws.ensures.code c.args.code.now index insn c.count-some.ensures.code c.insn-insn.ensures.at))
 
 pub returns-clause-items : goal.returns-clause-items
 returns-clause-items c =
