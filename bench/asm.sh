@@ -1,9 +1,13 @@
 #!/usr/bin/env bash
 # Times `pcc asm` on sources at its limits, median of five: the line that is printed, processor time and
 # peak memory; and GNU as for Alpha on the same 1,024 instructions, where it is installed.
-# PCC: see bench/program.sh.
+# PCC is the program that is measured; without it tools/build builds the proved one.
+#
+# usage: bench/asm.sh
 set -eu
 top=$(cd "$(dirname "${BASH_SOURCE[0]}")/.." && pwd)
+. "$top/tools/usage.sh"
+usage 0 "$@"
 work=$(mktemp -d)
 trap 'rm -rf "$work"' EXIT
 . "$top/bench/program.sh"

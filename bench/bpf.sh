@@ -12,8 +12,12 @@
 # PCC is the program that is measured; without it tools/build builds the proved one. CC is the C
 # compiler, cc without it; an empty CC leaves libpcap out. A line that isn't the one expected ends the run
 # with status 1.
+#
+# usage: bench/bpf.sh
 set -eu
 top=$(cd "$(dirname "${BASH_SOURCE[0]}")/.." && pwd)
+. "$top/tools/usage.sh"
+usage 0 "$@"
 work=$(mktemp -d)
 trap 'rm -rf "$work"' EXIT
 . "$top/bench/program.sh"

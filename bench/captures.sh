@@ -8,10 +8,13 @@
 #
 # usage: bench/captures.sh [BYTES]  of a capture, 1,000,000,000 without it; as many are taken in the folder for
 #                                   temporary files, and lines besides
+#
 # PCC is the program that is measured; without it tools/build builds the proved one. JOBS is how many
 # parts are run side by side, as many as there are processors without it.
 set -eu
 top=$(cd "$(dirname "${BASH_SOURCE[0]}")/.." && pwd)
+. "$top/tools/usage.sh"
+usage 1 "$@"
 work=$(mktemp -d)
 trap 'rm -rf "$work"' EXIT
 . "$top/bench/program.sh"

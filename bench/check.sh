@@ -2,9 +2,13 @@
 # Times `pcc check` on containers at its limits, accepted and refused, median of five (the worst files
 # known once each), some of them in both versions: the line that is printed, processor time and peak
 # memory. A line that isn't the one expected ends the run with status 1.
-# PCC: see bench/program.sh.
+# PCC is the program that is measured; without it tools/build builds the proved one.
+#
+# usage: bench/check.sh
 set -eu
 top=$(cd "$(dirname "${BASH_SOURCE[0]}")/.." && pwd)
+. "$top/tools/usage.sh"
+usage 0 "$@"
 work=$(mktemp -d)
 trap 'rm -rf "$work"' EXIT
 . "$top/bench/program.sh"

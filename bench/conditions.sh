@@ -8,9 +8,14 @@
 # its time is that of reading, and of what is asked before the proof. `prove` of the same makes the condition
 # besides, words put into the invariant, and ends at the first goal, which isn't easy: `not easy 0`.
 #
-# PCC: see bench/program.sh. A line that isn't the one expected ends the run with status 1.
+# PCC is the program that is measured; without it tools/build builds the proved one.
+# A line that isn't the one expected ends the run with status 1.
+#
+# usage: bench/conditions.sh
 set -eu
 top=$(cd "$(dirname "${BASH_SOURCE[0]}")/.." && pwd)
+. "$top/tools/usage.sh"
+usage 0 "$@"
 work=$(mktemp -d)
 trap 'rm -rf "$work"' EXIT
 . "$top/bench/program.sh"

@@ -3,9 +3,13 @@
 # each entry the next one's part; a balanced tree; and a chain over 104,000 entries of an operator at
 # two words, which rise, are drawn at random, or have equal hashes under the toolchain's hasher, whose
 # seed is fixed. Median of five; processor time and peak memory.
-# PCC: see bench/program.sh.
+# PCC is the program that is measured; without it tools/build builds the proved one.
+#
+# usage: bench/containers.sh
 set -eu
 top=$(cd "$(dirname "${BASH_SOURCE[0]}")/.." && pwd)
+. "$top/tools/usage.sh"
+usage 0 "$@"
 work=$(mktemp -d)
 trap 'rm -rf "$work"' EXIT
 python3 - "$work" <<'PY'

@@ -1,8 +1,11 @@
 #!/usr/bin/env bash
 # Times `pcc check` and `pcc prove` on files made to be slow, each within every limit of the format: bytes,
-# processor time, peak memory, and the line or status. With words only the families whose name has one of
-# them; PCC names another program. Another line than the one expected, more than 2 s or 512 MB of `check`,
-# or more than 5 s or 1,024 MB of `prove` ends the run with status 1 (known: o).
+# processor time, peak memory, and the line or status. PCC names another program. Another line than the one
+# expected, more than 2 s or 512 MB of `check`, or more than 5 s or 1,024 MB of `prove` ends the run with
+# status 1 (known: o).
+#
+# usage: bench/hostile.sh [WORD ..]   with words, only the families whose name has one of them
+#
 # For `check` (bench/hostile.py):
 #   a  formulas under words and memories, each level in two contexts
 #   b  invariants of many leaves, changed by many ways or many instructions
@@ -22,6 +25,8 @@
 #   m  disjunctions whose sides bring a hypothesis each, so that one goal stands in many contexts
 set -eu
 top=$(cd "$(dirname "${BASH_SOURCE[0]}")/.." && pwd)
+. "$top/tools/usage.sh"
+usage any "$@"
 work=$(mktemp -d)
 trap 'rm -rf "$work"' EXIT
 . "$top/bench/program.sh"

@@ -6,8 +6,12 @@
 #
 # PCC is the program that is measured; without it tools/build builds the proved one. A line
 # that isn't the one expected ends the run with status 1.
+#
+# usage: bench/lemmas.sh
 set -eu
 top=$(cd "$(dirname "${BASH_SOURCE[0]}")/.." && pwd)
+. "$top/tools/usage.sh"
+usage 0 "$@"
 work=$(mktemp -d)
 trap 'rm -rf "$work"' EXIT
 . "$top/bench/program.sh"

@@ -1,8 +1,12 @@
 #!/usr/bin/env bash
 # Times `pcc ref` over the longest packet file of 64-byte packets, beside `cat` of the same file.
-# PCC: see bench/program.sh.
+# PCC is the program that is measured; without it tools/build builds the proved one.
+#
+# usage: bench/packets.sh
 set -eu
 top=$(cd "$(dirname "${BASH_SOURCE[0]}")/.." && pwd)
+. "$top/tools/usage.sh"
+usage 0 "$@"
 . "$top/bench/program.sh"
 work=$(mktemp -d)
 trap 'rm -rf "$work"' EXIT

@@ -3,9 +3,13 @@
 # peak memory. A line or a digest that isn't the one expected, also of `check` of what is written, ends
 # the run with status 1. The lines and digests of `prove` are an independent implementation's. Then files
 # that ask for very much: a goal that is shared stands under 2^12 contexts, each with many hypotheses.
-# PCC: see bench/program.sh.
+# PCC is the program that is measured; without it tools/build builds the proved one.
+#
+# usage: bench/prove.sh
 set -eu
 top=$(cd "$(dirname "${BASH_SOURCE[0]}")/.." && pwd)
+. "$top/tools/usage.sh"
+usage 0 "$@"
 work=$(mktemp -d)
 trap 'rm -rf "$work"' EXIT
 . "$top/bench/program.sh"

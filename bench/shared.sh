@@ -10,9 +10,14 @@
 #   instances  a predicate of 20 parts holds of one word after another, by `all_e` and `eq_sub`
 # Under `tag` the code `ret` has a condition that ends with `tt`; its proof goes by way of theirs.
 #
-# PCC: see bench/program.sh. A container that isn't accepted ends the run with status 1.
+# PCC is the program that is measured; without it tools/build builds the proved one.
+# A container that isn't accepted ends the run with status 1.
+#
+# usage: bench/shared.sh
 set -eu
 top=$(cd "$(dirname "${BASH_SOURCE[0]}")/.." && pwd)
+. "$top/tools/usage.sh"
+usage 0 "$@"
 work=$(mktemp -d)
 trap 'rm -rf "$work"' EXIT
 . "$top/bench/program.sh"

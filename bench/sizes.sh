@@ -7,11 +7,8 @@
 # named test_*. Functions (`fn`), clauses (`ensures`) and tests (`#[test]`) are counted in lines of code, functions and
 # clauses without those of test files. Edits are the files of must-fail/.
 set -u
-case ${1-} in
-  '') ;;
-  -h | --help) sed -n '2,/^set/ { s/^# \{0,1\}//; /^set/d; p; }' "${BASH_SOURCE[0]}"; exit 0 ;;
-  *) echo "sizes.sh takes no words, but --help; it was given: $*" >&2; exit 2 ;;
-esac
+. "$(dirname "${BASH_SOURCE[0]}")/../tools/usage.sh"
+usage 0 "$@"
 cd "$(dirname "${BASH_SOURCE[0]}")/../crates" || exit 1
 
 # Each line of the crates' texts, after its file's path and a tab.

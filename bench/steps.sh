@@ -1,9 +1,13 @@
 #!/usr/bin/env bash
 # Times `pcc ref` and `pcc run` of a proved endless loop on one packet, with 1 step and with 200,000,000:
 # processor time, median of five each, and how much longer or shorter `run` takes.
-# PCC: see bench/program.sh.
+# PCC is the program that is measured; without it tools/build builds the proved one.
+#
+# usage: bench/steps.sh
 set -eu
 top=$(cd "$(dirname "${BASH_SOURCE[0]}")/.." && pwd)
+. "$top/tools/usage.sh"
+usage 0 "$@"
 . "$top/bench/program.sh"
 python3 - "$PCC" "$top/examples" <<'PY'
 import os, statistics, subprocess, sys

@@ -4,8 +4,12 @@
 # five at 100,000 steps), less what the same script takes without turns, which is as much; output goes to /dev/null.
 #
 # PCC is the program that is measured; without it tools/build builds the proved one.
+#
+# usage: bench/turns.sh
 set -eu
 top=$(cd "$(dirname "${BASH_SOURCE[0]}")/.." && pwd)
+. "$top/tools/usage.sh"
+usage 0 "$@"
 work=$(mktemp -d)
 trap 'rm -rf "$work"' EXIT
 . "$top/bench/program.sh"

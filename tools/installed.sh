@@ -1,9 +1,10 @@
-# Sourced by tools/install and tools/uninstall: their usage texts and messages, and the list of what is installed.
+# Sourced by tools/install and tools/uninstall: their messages, and the list of what is installed.
 #
 # The list is a file below the prefix. Its lines are `folder PATH` and `file PATH`: the folders that install made, and
 # the files that it put there. Paths are absolute, without DESTDIR.
 
 script=tools/${0##*/}
+. "$(dirname "${BASH_SOURCE[0]}")/usage.sh"
 
 # Prints what is wrong, and ends with status 1.
 fail() { # MESSAGE
@@ -13,13 +14,8 @@ fail() { # MESSAGE
 
 # Sets `prefix`, an absolute path, and `list` from the arguments of the script; prints its head for --help.
 read_prefix() { # [PREFIX]
-  case ${1-} in
-    -h | --help) sed -n '2,/^set -u/ s/^# \{0,1\}//p' "$0"; exit 0 ;;
-  esac
-  case $#:${1-/usr/local} in
-    0:* | 1:[!-]*) ;;
-    *) echo "usage: $script [PREFIX]" >&2; exit 2 ;;
-  esac
+  usage 1 "$@"
+  [ -n "${1-/usr/local}" ] || refuse_arguments "PREFIX is empty"
   prefix=$(realpath -ms -- "${1-/usr/local}") || exit 1
   root=${DESTDIR:+$(realpath -ms -- "$DESTDIR")}
   prefix=${prefix%/} root=${root%/}
