@@ -314,7 +314,7 @@ def drawn_block(block: Block, corner: Point, marks: Dict[int, str]) -> str:
 def drawn(graph: Sequence[Block], picture: Picture, marks: Dict[int, str]) -> str:
     """Returns the picture as an SVG element."""
     size = 'width="%.0f" height="%.0f" viewBox="0 0 %.0f %.0f"' % ((picture.width, picture.height) * 2)
-    parts = ['<svg xmlns="http://www.w3.org/2000/svg" %s role="img">' % size, "<title>Flow graph</title>",
+    parts = ['<svg xmlns="http://www.w3.org/2000/svg" %s>' % size, "<title>Flow graph</title>",
              '<defs><marker id="arrow" viewBox="0 0 8 8" refX="8" refY="4" markerWidth="8" markerHeight="8" '
              'orient="auto"><path d="M0 0 L8 4 L0 8 z"/></marker></defs>']
     parts += map(drawn_edge, picture.edges)
