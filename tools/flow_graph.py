@@ -14,7 +14,7 @@ from typing import Dict, List, NamedTuple, Optional, Sequence, Set, Tuple
 LETTER, LINE, PAD = 7.3, 16.0, 8.0  # pixels: a letter's width at 12 pixels, a line, the space around a block's text
 TRACK, STUB, GAP = 7.0, 12.0, 28.0  # pixels: between two edges, at an edge's ends, between two blocks of a rank
 MOST_LINES = 24  # lines of a block that are drawn; of a longer one the first and the last
-DOT_SECONDS = 2.0  # after which `ranked` places the blocks
+DOT_SECONDS = 1.0  # after which `ranked` places the blocks
 TARGET = re.compile(r" (?:.*,)?L(\d+)$")
 
 Point = Tuple[float, float]
