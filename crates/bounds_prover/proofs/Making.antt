@@ -34,8 +34,8 @@ use Rattle.pcc_gate.proofs.First.{vc_of-encodes}
 use Rattle.pcc_gate.proofs.Lemmas.{none-good}
 use Rattle.pcc_gate.proofs.Safe.{bound-fits}
 use Rattle.prover_class.specs.Parts.{conjoined, condition_proof, first_not_easy}
-use Rattle.bounds_prover.specs.declared.fault.ProveFault.{ProveFault}
-use Rattle.bounds_prover.specs.declared.fault.ProveFault.TheVariants.{Refused, NotEasy}
+use Rattle.bounds_prover.specs.declared.fault.ProveFlaw.{ProveFlaw}
+use Rattle.bounds_prover.specs.declared.fault.ProveFlaw.TheVariants.{Refused, NotEasy}
 use Rattle.prover_conditions.specs.Conditions.{condition_parts}
 use Rattle.prover_conditions.proofs.WholeProof.{IsSoundClass, condition-parts, parts-first, parts-second, parts-third, proof-checks}
 use Rattle.bounds_prover.specs.Proving.{with_proof, excess, encoded_unless, with_parts_proof, proved_contents, proved_code, proved_read, made_unless, proved_container}
@@ -237,7 +237,7 @@ module _ (c : Contents) (parts : List Form) where
     small : excess (with_proof c proof) proof ≡ None
     out_is : out ≡ encoding_of (with_proof c proof)
 
-  encoded-none : (o : Option ProveFault) (d : Contents) (out : List ℕ) → encoded_unless o d ≡ Ok out → (o ≡ None) × (out ≡ encoding_of d)
+  encoded-none : (o : Option ProveFlaw) (d : Contents) (out : List ℕ) → encoded_unless o d ≡ Ok out → (o ≡ None) × (out ≡ encoding_of d)
   encoded-none None d out e = (refl, cc)
   encoded-none (Some fault) d out e = absurd cc
 

@@ -14,20 +14,20 @@ use Rattle.pcc_gate.specs.declared.limits.TheConstants.{MAX_WEIGHT}
 use Rattle.pcc_gate.specs.Weights.{lemmas_weight}
 use Rattle.bounds_prover.specs.declared.fault.Measure.{Measure}
 use Rattle.bounds_prover.specs.declared.fault.Measure.TheVariants.{Weight, Height, Entries, Bytes}
-use Rattle.bounds_prover.specs.declared.fault.ProveFault.{ProveFault}
-use Rattle.bounds_prover.specs.declared.fault.ProveFault.TheVariants.{TooBig}
+use Rattle.bounds_prover.specs.declared.fault.ProveFlaw.{ProveFlaw}
+use Rattle.bounds_prover.specs.declared.fault.ProveFlaw.TheVariants.{TooBig}
 use Rattle.bounds_prover.specs.Proving.{within, whole_weight, excess}
 
 -- a number within its limit lets the next be tried
-pub passes : (m : Measure) (limit n shown : ℕ) (next : Option ProveFault) → n ≤ limit → within m limit n shown next ≡ next
+pub passes : (m : Measure) (limit n shown : ℕ) (next : Option ProveFlaw) → n ≤ limit → within m limit n shown next ≡ next
 passes m limit n shown next h = ap (λ b. cond b (Some (TooBig m shown)) next) (le-ltb limit n h)
 
 -- a number past it is the fault
-pub exceeds : (m : Measure) (limit n shown : ℕ) (next : Option ProveFault) → limit < n → within m limit n shown next ≡ Some (TooBig m shown)
+pub exceeds : (m : Measure) (limit n shown : ℕ) (next : Option ProveFlaw) → limit < n → within m limit n shown next ≡ Some (TooBig m shown)
 exceeds m limit n shown next h = ap (λ b. cond b (Some (TooBig m shown)) next) (lt-ltb limit n h)
 
 -- where there is no fault, the number is within its limit, and so are the next
-pub no_excess : (m : Measure) (limit n shown : ℕ) (next : Option ProveFault) → within m limit n shown next ≡ None → (n ≤ limit) × (next ≡ None)
+pub no_excess : (m : Measure) (limit n shown : ℕ) (next : Option ProveFlaw) → within m limit n shown next ≡ None → (n ≤ limit) × (next ≡ None)
 no_excess m limit n shown next e = (ltb-false limit n (by_test (ltb limit n) e).0, (by_test (ltb limit n) e).1)
   where
     by_test : (b : Bool) → cond b (Some (TooBig m shown)) next ≡ None → (b ≡ false) × (next ≡ None)
@@ -61,13 +61,13 @@ module _ (c : Contents) (p : Tree) where
   abbrev shown_bytes : ℕ
   shown_bytes = min (length (encoding_of c)) (2 ^ 64 - 1)
 
-  abbrev by_bytes : Option ProveFault
+  abbrev by_bytes : Option ProveFlaw
   by_bytes = within Bytes MAX_BYTES (length (encoding_of c)) shown_bytes None
 
-  abbrev by_entries : Option ProveFault
+  abbrev by_entries : Option ProveFlaw
   by_entries = within Entries MAX_ENTRIES (length (entries (roots c))) (length (entries (roots c))) by_bytes
 
-  abbrev by_height : Option ProveFault
+  abbrev by_height : Option ProveFlaw
   by_height = within Height MAX_HEIGHT (height_of p) (capped (height_of p)) by_entries
 
   pub small-enough : excess c p ≡ None → IsSmallEnough c p

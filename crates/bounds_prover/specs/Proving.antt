@@ -24,7 +24,9 @@ use Rattle.prover_conditions.specs.Conditions.{condition_parts}
 use Rattle.bounds_prover.specs.declared.fault.Measure.{Measure}
 use Rattle.bounds_prover.specs.declared.fault.Measure.TheVariants.{Weight, Height, Entries, Bytes}
 use Rattle.bounds_prover.specs.declared.fault.ProveFault.{ProveFault}
-use Rattle.bounds_prover.specs.declared.fault.ProveFault.TheVariants.{Refused, NotEasy, TooBig, Memory, Results}
+use Rattle.bounds_prover.specs.declared.fault.ProveFault.TheVariants.{At, Memory, Results}
+use Rattle.bounds_prover.specs.declared.fault.ProveFlaw.{ProveFlaw}
+use Rattle.bounds_prover.specs.declared.fault.ProveFlaw.TheVariants.{Refused, NotEasy, TooBig}
 use Rattle.proof_container.specs.Versions.{profile_of, signature_of}
 
 -- the contents with this proof in place of theirs
@@ -34,7 +36,7 @@ with_proof c p = record c { proof = Some p }
 -- ---- limits
 
 -- the fault of a number past its limit, which is shown as that, else what comes after
-abbrev pub within : Measure → ℕ → ℕ → ℕ → Option ProveFault → Option ProveFault
+abbrev pub within : Measure → ℕ → ℕ → ℕ → Option ProveFlaw → Option ProveFlaw
 within measure limit n shown next = if nat_lt limit n then Some (TooBig measure shown) else next
 
 -- what the proof weighs with the proofs of the contents' lemmas, by the parameters of the version's
@@ -43,7 +45,7 @@ abbrev pub whole_weight : Contents → Tree → ℕ
 whole_weight c p = proof_weight (signature_of c.version) c.lemmas p
 
 -- the first measure of the proof, or of the contents that have it, that is past its limit
-unfoldable pub excess : Contents → Tree → Option ProveFault
+unfoldable pub excess : Contents → Tree → Option ProveFlaw
 excess c p =
     within Weight MAX_WEIGHT (whole_weight c p) (capped (whole_weight c p))
     (within Height MAX_HEIGHT (height_of p) (capped (height_of p))
@@ -53,53 +55,53 @@ excess c p =
 -- ---- what is made
 
 -- the encoding of the contents, unless there is a fault
-abbrev pub encoded_unless : Option ProveFault → Contents → Result (List ℕ) ProveFault
+abbrev pub encoded_unless : Option ProveFlaw → Contents → Result (List ℕ) ProveFlaw
 encoded_unless None c = Ok (encoding_of c)
-encoded_unless (Some fault) c = Err fault
+encoded_unless (Some flaw) c = Err flaw
 
 -- the contents with the proof of all parts, where none is the first that isn't easy (then there is a proof: `class_laws`)
-abbrev pub with_parts_proof : Contents → Option ℕ → Option Tree → Result (List ℕ) ProveFault
+abbrev pub with_parts_proof : Contents → Option ℕ → Option Tree → Result (List ℕ) ProveFlaw
 with_parts_proof c (Some k) proof = Err (NotEasy k)
 with_parts_proof c None (Some p) = encoded_unless (excess (with_proof c p) p) (with_proof c p)
 with_parts_proof c None None = Err (NotEasy 0)
 
 -- the contents with the class's proof of these parts
-unfoldable pub proved_contents : Contents → List Form → Result (List ℕ) ProveFault
+unfoldable pub proved_contents : Contents → List Form → Result (List ℕ) ProveFlaw
 proved_contents c parts =
     with_parts_proof c (first_not_easy (is_some c.bound) 0 parts)
     (condition_proof (is_some c.bound) parts)
 
 -- the same, where the code bytes are code
 abbrev pub proved_code : PolicyView → Contents → Result (List Insn) CodeFlaw
-    → Result (List ℕ) ProveFault
+    → Result (List ℕ) ProveFlaw
 proved_code policy c (Ok code) = proved_contents c (condition_parts policy c.bound code c.invs)
 proved_code policy c (Err flaw) = Err (Refused (refusal.BadCode flaw))
 
 -- the same, where the bytes are a container
-abbrev pub proved_read : PolicyView → Result Contents Fault → Result (List ℕ) ProveFault
+abbrev pub proved_read : PolicyView → Result Contents Fault → Result (List ℕ) ProveFlaw
 proved_read policy (Ok c) = proved_code policy c (decoded_code (profile_of c.version) c.code)
 proved_read policy (Err fault) = Err (Refused (refusal.Malformed fault.0 fault.1))
 
 -- what is made, unless there is a refusal
-abbrev pub made_unless : Option Refusal → Result (List ℕ) ProveFault → Result (List ℕ) ProveFault
+abbrev pub made_unless : Option Refusal → Result (List ℕ) ProveFlaw → Result (List ℕ) ProveFlaw
 made_unless None made = made
 made_unless (Some r) made = Err (Refused r)
 
 -- The bytes of the container with a proof in place of its own, where the clauses before the proof
 -- hold and, of the lemmas alone, 10 and 14, each part of the condition is easy, and the class's
 -- proof, which cites no lemma, is within the limits; else the first of these that fails.
-unfoldable pub proved_container : PolicyView → List ℕ → Result (List ℕ) ProveFault
+unfoldable pub proved_container : PolicyView → List ℕ → Result (List ℕ) ProveFlaw
 proved_container policy bytes =
     made_unless (lemma_refusal policy bytes) (proved_read policy (decoded_container bytes))
 
 -- ---- answers
 
--- the answer is what is made, or the fault why not; want of memory says nothing
-abbrev pub IsMadeAnswer : Result (List ℕ) ProveFault → Result (Vec ℕ Global) ProveFault → Type 0
+-- the answer is what is made, or the flaw why not; want of memory and the limit of results say nothing
+abbrev pub IsMadeAnswer : Result (List ℕ) ProveFlaw → Result (Vec ℕ Global) ProveFault → Type 0
 IsMadeAnswer made (Ok out) = made ≡ Ok out.items
+IsMadeAnswer made (Err (At flaw)) = made ≡ Err flaw
 IsMadeAnswer made (Err Memory) = Unit {0}
 IsMadeAnswer made (Err Results) = Unit {0}
-IsMadeAnswer made (Err fault) = made ≡ Err fault
 
 -- what `prove` answers
 abbrev pub IsProveAnswer : PolicyView → List ℕ → Result (Vec ℕ Global) ProveFault → Type 0

@@ -38,9 +38,9 @@ impl Measure {
     }
 }
 
-/// Why a container gets no proof.
+/// What keeps a container from getting a proof: the first that does.
 #[derive(Clone, Copy, Debug, PartialEq, Eq, Error)]
-pub enum ProveFault {
+pub enum ProveFlaw {
     /// An acceptance check before the proof fails, or, for the lemmas alone, 10 or 14: the first
     /// that fails.
     #[error("refused: {0}")]
@@ -53,6 +53,14 @@ pub enum ProveFault {
     /// value. A weight or a height past 4,294,967,295 is shown as that.
     #[error("too big: {0:?} {1}")]
     TooBig(Measure, u64),
+}
+
+/// Why a call makes no container with a proof.
+#[derive(Clone, Copy, Debug, PartialEq, Eq, Error)]
+pub enum ProveFault {
+    /// The container gets no proof.
+    #[error("{0}")]
+    At(ProveFlaw),
     /// The call ran out of memory; that says nothing about the container.
     #[error("out of memory")]
     Memory,

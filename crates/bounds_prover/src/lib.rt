@@ -11,6 +11,6 @@ mod fault;
 mod proving;
 mod theorems;
 
-pub use fault::{Measure, ProveFault};
+pub use fault::{Measure, ProveFault, ProveFlaw};
 pub use proving::prove;
 pub use theorems::prove_laws;

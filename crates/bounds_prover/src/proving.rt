@@ -19,7 +19,7 @@ ghost use Rattle.prover_conditions.specs.Conditions.{condition_parts};
 ghost use Rattle.bounds_prover.specs.Proving.{excess, encoded_unless};
 ghost use Rattle.bounds_prover.specs.Proving.{proved_contents, IsMadeAnswer, IsProveAnswer};
 
-use crate::fault::{Measure, ProveFault};
+use crate::fault::{Measure, ProveFault, ProveFlaw};
 use crate::theorems::prove_laws;
 use hereditary_subst::Exhausted;
 use pcc_gate::{GateFault, MAX_WEIGHT, Passed, front_with_lemmas, lemmas_weight};
@@ -32,7 +32,7 @@ use term_table::Id;
 use vcgen::MAX_HEIGHT;
 
 /// The first measure of the proof, or of the contents that the view shows, that is past its limit.
-fn excess(alloc: Global, view: &View<'_>, proof: Id) -> Result<Option<ProveFault>, AllocError>
+fn excess(alloc: Global, view: &View<'_>, proof: Id) -> Result<Option<ProveFlaw>, AllocError>
     requires roots { AreKnown view.now.table.now view.now.invs.now view.now.proof }
     requires lemmas { LemmasKnown view.now.table.now view.now.lemmas.now }
     requires proof { IsKnown view.now.table.now proof }
@@ -43,18 +43,18 @@ fn excess(alloc: Global, view: &View<'_>, proof: Id) -> Result<Option<ProveFault
     let of_lemmas = lemmas_weight(view.table, signature_of(view.version), view.lemmas);
     let weight = of_lemmas.saturating_add(view.table.weight(proof));
     if weight > MAX_WEIGHT {
-        return Ok(Some(ProveFault::TooBig(Measure::Weight, u64::from(weight))));
+        return Ok(Some(ProveFlaw::TooBig(Measure::Weight, u64::from(weight))));
     }
     let height = view.table.height(proof);
     if height > MAX_HEIGHT {
-        return Ok(Some(ProveFault::TooBig(Measure::Height, u64::from(height))));
+        return Ok(Some(ProveFlaw::TooBig(Measure::Height, u64::from(height))));
     }
     let (entries, bytes) = extent(alloc, view)?;
     if entries > u64::from(MAX_ENTRIES) {
-        return Ok(Some(ProveFault::TooBig(Measure::Entries, entries)));
+        return Ok(Some(ProveFlaw::TooBig(Measure::Entries, entries)));
     }
     if bytes > u64::from(MAX_BYTES) {
-        return Ok(Some(ProveFault::TooBig(Measure::Bytes, bytes)));
+        return Ok(Some(ProveFlaw::TooBig(Measure::Bytes, bytes)));
     }
     Ok(None)
 }
@@ -73,7 +73,7 @@ fn written(alloc: Global, view: &View<'_>, proof: Id) -> Result<Vec<u8>, ProveFa
 {
     match excess(alloc, view, proof) {
         Err(_) => Err(ProveFault::Memory),
-        Ok(Some(fault)) => Err(fault),
+        Ok(Some(flaw)) => Err(ProveFault::At(flaw)),
         Ok(None) => match write(alloc, view) {
             Ok(bytes) => Ok(bytes),
             Err(_) => Err(ProveFault::Memory),
@@ -115,7 +115,7 @@ fn proved(
         Err(Exhausted::Results) => return Err(ProveFault::Results),
     };
     match found {
-        ConditionProof::NotEasy(part) => Err(ProveFault::NotEasy(part)),
+        ConditionProof::NotEasy(part) => Err(ProveFault::At(ProveFlaw::NotEasy(part))),
         ConditionProof::Proved(proof) => {
             let view = View {
                 version,
@@ -137,7 +137,7 @@ fn made(alloc: Global, policy: &Policy, bytes: &[u8]) -> Result<Vec<u8>, ProveFa
     ensures { IsProveAnswer policy.now bytes.now result }
 {
     match front_with_lemmas(alloc, policy, bytes) {
-        Err(GateFault::Refused(refusal)) => Err(ProveFault::Refused(refusal)),
+        Err(GateFault::Refused(refusal)) => Err(ProveFault::At(ProveFlaw::Refused(refusal))),
         Err(GateFault::Memory) => Err(ProveFault::Memory),
         Err(GateFault::Results) => Err(ProveFault::Results),
         Ok(passed) => proved(alloc, policy, bytes, passed),
@@ -149,7 +149,7 @@ fn made(alloc: Global, policy: &Policy, bytes: &[u8]) -> Result<Vec<u8>, ProveFa
 /// version, step bound and lemmas; the proof cites no lemma. The container checker accepts the
 /// result.
 ///
-/// Errors, in their order: `Refused` names the first check that fails of those before the proof
+/// Errors: `At` the first of these: `Refused` names the first check that fails of those before the proof
 /// and, for the lemmas alone, of 10 and 14 (`pcc_gate::front_with_lemmas`). `NotEasy` names the
 /// first part of the condition that `prover_class` gives no proof: 0 is the entry's part, k + 1
 /// that of invariant k. `TooBig` names the first measure that is past its limit, with its value:

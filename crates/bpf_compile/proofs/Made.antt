@@ -22,6 +22,7 @@ use Rattle.proof_container.specs.declared.container.View.{View}
 use Rattle.prover_class.specs.Parts.{condition_proof}
 use Rattle.pcc_asm.specs.Words.{code_bytes}
 use Rattle.bounds_prover.specs.declared.fault.ProveFault.{ProveFault}
+use Rattle.bounds_prover.specs.declared.fault.ProveFlaw.{ProveFlaw}
 use Rattle.bounds_prover.specs.Proving.{with_proof, proved_container, IsProveAnswer}
 use Rattle.bpf_words.specs.declared.insn.Bpf.{Bpf}
 use Rattle.bpf_code.specs.Blocks.{bpf_code}
@@ -105,13 +106,13 @@ Compiles program =
 -- the bytes of the program under `filter`
 pub at-program : (program : List Bpf) (policy : PolicyView) (bytes : List ℕ) → policy
     ≡ built_in Filter → bytes ≡ encoding_of (bare_contents program)
-    → (r : Result (List ℕ) ProveFault) → proved_container policy bytes ≡ r → compiled_container program ≡ r
+    → (r : Result (List ℕ) ProveFlaw) → proved_container policy bytes ≡ r → compiled_container program ≡ r
 unfolding compiled_container
 at-program program policy bytes is bare r given =
     sym (ap (λ p. proved_container p bytes) is ∙ ap (proved_container (built_in Filter)) bare)
     ∙ given
 
-one : (r : Result (List ℕ) ProveFault) (a b : List ℕ) → r ≡ Ok a → r ≡ Ok b → a ≡ b
+one : (r : Result (List ℕ) ProveFlaw) (a b : List ℕ) → r ≡ Ok a → r ≡ Ok b → a ≡ b
 one r a b p q = cc
 
 pub compilation-is : (program : List Bpf) (out : List ℕ) → AreCodeBytes program (code_bytes (bpf_code program)) → HasClassProof program
@@ -128,11 +129,11 @@ unfolding compiled_container
 compiled-is program out compiles given = subst (IsCompiled program) (one (compiled_container program) compiles.0 out compiles.1 given) compiles.2
 
 -- no fault is given
-pub no-fault : (program : List Bpf) (fault : ProveFault) → Compiles program → compiled_container program ≡ Err fault → ⊥
+pub no-fault : (program : List Bpf) (fault : ProveFlaw) → Compiles program → compiled_container program ≡ Err fault → ⊥
 unfolding compiled_container
 no-fault program fault compiles given = apart (compiled_container program) compiles.0 fault compiles.1 given
   where
-    apart : (r : Result (List ℕ) ProveFault) (a : List ℕ) (f : ProveFault) → r ≡ Ok a → r ≡ Err f → ⊥
+    apart : (r : Result (List ℕ) ProveFlaw) (a : List ℕ) (f : ProveFlaw) → r ≡ Ok a → r ≡ Err f → ⊥
     apart r a f p q = cc
 
 -- what `prove` answers, where the answer is known

@@ -22,8 +22,8 @@ use Rattle.pcc_gate.specs.declared.limits.TheConstants.{MAX_WEIGHT}
 use Rattle.pcc_gate.proofs.Lemmas.{good-none}
 use Rattle.bounds_prover.specs.declared.fault.Measure.{Measure}
 use Rattle.bounds_prover.specs.declared.fault.Measure.TheVariants.{Weight, Height, Entries, Bytes}
-use Rattle.bounds_prover.specs.declared.fault.ProveFault.{ProveFault}
-use Rattle.bounds_prover.specs.declared.fault.ProveFault.TheVariants.{TooBig}
+use Rattle.bounds_prover.specs.declared.fault.ProveFlaw.{ProveFlaw}
+use Rattle.bounds_prover.specs.declared.fault.ProveFlaw.TheVariants.{TooBig}
 use Rattle.prover_conditions.specs.Conditions.{condition_parts}
 use Rattle.bounds_prover.specs.Proving.{with_proof, within, whole_weight, excess, encoded_unless, with_parts_proof, proved_contents, proved_code, proved_read, made_unless, proved_container}
 use Rattle.bpf_words.specs.declared.insn.Bpf.{Bpf}
@@ -43,7 +43,7 @@ use Rattle.word_ops.specs.declared.Profile.TheVariants.{One}
 -- ---- measures
 
 -- a number within its limit lets the next be tried
-goes-on : (m : Measure) (limit n shown : ℕ) (next : Option ProveFault) → n ≤ limit → within m limit n shown next ≡ next
+goes-on : (m : Measure) (limit n shown : ℕ) (next : Option ProveFlaw) → n ≤ limit → within m limit n shown next ≡ next
 goes-on m limit n shown next h = ap (λ b. cond b (Some (TooBig m shown)) next) (le-ltb limit n h)
 
 nothing-past : (c : Contents) (p : Tree) → whole_weight c p ≤ MAX_WEIGHT → height_of p ≤ MAX_HEIGHT

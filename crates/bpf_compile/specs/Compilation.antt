@@ -7,7 +7,7 @@ use Rattle.proof_container.specs.Contents.{Contents}
 use Rattle.proof_container.specs.Encoding.{encoding_of}
 use Rattle.prover_class.specs.Parts.{condition_proof}
 use Rattle.pcc_asm.specs.Assembling.{plain_contents}
-use Rattle.bounds_prover.specs.declared.fault.ProveFault.{ProveFault}
+use Rattle.bounds_prover.specs.declared.fault.ProveFlaw.{ProveFlaw}
 use Rattle.bounds_prover.specs.Proving.{proved_container, with_proof}
 use Rattle.bpf_words.specs.declared.insn.Bpf.{Bpf}
 use Rattle.bpf_code.specs.Blocks.{bpf_code}
@@ -20,7 +20,7 @@ bare_contents program =
     plain_contents 1 None (built_in Filter) (bpf_invariants program) (bpf_code program)
 
 -- the program's container: what `prove` makes of the one without a proof
-unfoldable pub compiled_container : List Bpf → Result (List ℕ) ProveFault
+unfoldable pub compiled_container : List Bpf → Result (List ℕ) ProveFlaw
 compiled_container program =
     proved_container (built_in Filter) (encoding_of (bare_contents program))
 

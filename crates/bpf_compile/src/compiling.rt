@@ -69,9 +69,7 @@ fn with_proof(
         Ok(out) => Ok(out),
         Err(ProveFault::Memory) => Err(Exhausted::Memory),
         Err(ProveFault::Results) => Err(Exhausted::Results),
-        Err(ProveFault::Refused(_)) => unreachable!(),
-        Err(ProveFault::NotEasy(_)) => unreachable!(),
-        Err(ProveFault::TooBig(_, _)) => unreachable!(),
+        Err(ProveFault::At(_)) => unreachable!(),
     }
 }
 

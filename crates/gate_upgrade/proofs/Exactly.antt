@@ -13,8 +13,8 @@ use Rattle.proof_container.specs.declared.limits.TheConstants.{MAX_BYTES}
 use Rattle.proof_container.specs.Contents.{Contents}
 use Rattle.proof_container.specs.Encoding.{EncodesContents, encoding_of}
 use Rattle.proof_container.specs.Decoding.{Fault, decoded_container}
-use Rattle.gate_upgrade.specs.declared.fault.UpgradeFault.{UpgradeFault}
-use Rattle.gate_upgrade.specs.declared.fault.UpgradeFault.TheVariants as fault
+use Rattle.gate_upgrade.specs.declared.fault.UpgradeFlaw.{UpgradeFlaw}
+use Rattle.gate_upgrade.specs.declared.fault.UpgradeFlaw.TheVariants as flaw
 use Rattle.gate_upgrade.specs.declared.limits.TheConstants.{GROWTH}
 use Rattle.gate_upgrade.specs.Laws.{UpgradedExactly}
 use Rattle.gate_upgrade.specs.Upgrading.{kind_numbered, with_digest, contents_found, contents_in, number_in, kind_found, size_within, upgraded_container}
@@ -71,7 +71,7 @@ upgraded-as bytes out c n size kind read number found fits is =
 
 module _ (bytes out : List ℕ) (c : Contents) (old : EncodesContents bytes c) where
   -- the size that was tested
-  abbrev sized : ℕ → PolicyKind → Result (List ℕ) UpgradeFault
+  abbrev sized : ℕ → PolicyKind → Result (List ℕ) UpgradeFlaw
   sized n kind = size_within n >>= λ size. Ok (encoding_of (with_digest (built_in kind) c))
 
   upgrade-at : (kind : PolicyKind) → c.head ≡ Number (kind_number kind)
@@ -101,7 +101,7 @@ module _ (bytes out : List ℕ) (c : Contents) (old : EncodesContents bytes c) w
       → nat_lt MAX_BYTES (length bytes + GROWTH) ≡ b → sized (length bytes + GROWTH) kind ≡ Ok out
       → IsUpgrade bytes out
   by-size kind number true test e =
-      let none : sized (length bytes + GROWTH) kind ≡ Err (fault.TooBig (length bytes + GROWTH)) =
+      let none : sized (length bytes + GROWTH) kind ≡ Err (flaw.TooBig (length bytes + GROWTH)) =
       rw test refl in
       cc
   by-size kind number false test e =
@@ -129,7 +129,7 @@ module _ (bytes out : List ℕ) (c : Contents) (old : EncodesContents bytes c) w
 
 module _ (decides : DecodesExactly) (bytes out : List ℕ) (held : IsBytes bytes) where
   -- what comes behind the contents
-  abbrev behind : Result Contents UpgradeFault → Result (List ℕ) UpgradeFault
+  abbrev behind : Result Contents UpgradeFlaw → Result (List ℕ) UpgradeFlaw
   behind r =
       r >>= λ c. number_in c.head >>= λ n. kind_found n (kind_numbered n) >>= λ kind.
       size_within (length bytes + GROWTH) >>= λ size.
@@ -138,13 +138,13 @@ module _ (decides : DecodesExactly) (bytes out : List ℕ) (held : IsBytes bytes
   by-contents : (r : Result Contents Fault) → decoded_container bytes ≡ r
       → behind (contents_found r) ≡ Ok out → IsUpgrade bytes out
   by-contents (Ok c) is e = by-head bytes out c ((decides bytes c held).1 is) c.head refl e
-  by-contents (Err flaw) is e = cc
+  by-contents (Err at) is e = cc
 
   by-length : (b : Bool) → nat_lt MAX_BYTES (length bytes) ≡ b → upgraded_container bytes ≡ Ok out
       → IsUpgrade bytes out
   unfolding upgraded_container
   by-length true test e =
-      let none : behind (contents_in bytes) ≡ Err (fault.TooLong (length bytes)) = rw test refl in
+      let none : behind (contents_in bytes) ≡ Err (flaw.TooLong (length bytes)) = rw test refl in
       let some : behind (contents_in bytes) ≡ Ok out = e in
       cc
   by-length false test e =

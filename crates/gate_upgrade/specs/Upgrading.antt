@@ -15,6 +15,8 @@ use Rattle.proof_container.specs.Encoding.{encoding_of}
 use Rattle.proof_container.specs.Decoding.{Fault, decoded_container}
 use Rattle.gate_upgrade.specs.declared.fault.UpgradeFault.{UpgradeFault}
 use Rattle.gate_upgrade.specs.declared.fault.UpgradeFault.TheVariants as fault
+use Rattle.gate_upgrade.specs.declared.fault.UpgradeFlaw.{UpgradeFlaw}
+use Rattle.gate_upgrade.specs.declared.fault.UpgradeFlaw.TheVariants as flaw
 use Rattle.gate_upgrade.specs.declared.limits.TheConstants.{GROWTH}
 
 -- ---- the contents
@@ -42,36 +44,36 @@ with_digest policy c = record {
 -- ---- the tests
 
 -- what was read as a container
-abbrev pub contents_found : Result Contents Fault → Result Contents UpgradeFault
+abbrev pub contents_found : Result Contents Fault → Result Contents UpgradeFlaw
 contents_found (Ok c) = Ok c
-contents_found (Err flaw) = Err (fault.Malformed flaw.0 flaw.1)
+contents_found (Err at) = Err (flaw.Malformed at.0 at.1)
 
 -- what the bytes hold, where they aren't too many
-abbrev pub contents_in : List ℕ → Result Contents UpgradeFault
+abbrev pub contents_in : List ℕ → Result Contents UpgradeFlaw
 contents_in bytes =
     if nat_lt MAX_BYTES (length bytes)
-    then Err (fault.TooLong (length bytes))
+    then Err (flaw.TooLong (length bytes))
     else contents_found (decoded_container bytes)
 
 -- the number that a container names its policy by, which those of version 1 do, and no others
-abbrev pub number_in : Head → Result ℕ UpgradeFault
+abbrev pub number_in : Head → Result ℕ UpgradeFlaw
 number_in (Number n) = Ok n
-number_in (Digest d) = Err fault.Already
+number_in (Digest d) = Err flaw.Already
 
 -- the kind of the number, where there is one
-abbrev pub kind_found : ℕ → Option PolicyKind → Result PolicyKind UpgradeFault
+abbrev pub kind_found : ℕ → Option PolicyKind → Result PolicyKind UpgradeFlaw
 kind_found n (Some kind) = Ok kind
-kind_found n None = Err (fault.OtherPolicy n)
+kind_found n None = Err (flaw.OtherPolicy n)
 
 -- a size that a container may have
-abbrev pub size_within : ℕ → Result ℕ UpgradeFault
-size_within n = if nat_lt MAX_BYTES n then Err (fault.TooBig n) else Ok n
+abbrev pub size_within : ℕ → Result ℕ UpgradeFlaw
+size_within n = if nat_lt MAX_BYTES n then Err (flaw.TooBig n) else Ok n
 
 -- ---- the whole
 
 -- the container of version 2 with the contents of the one that the bytes are, or the first reason
 -- why there is none
-unfoldable pub upgraded_container : List ℕ → Result (List ℕ) UpgradeFault
+unfoldable pub upgraded_container : List ℕ → Result (List ℕ) UpgradeFlaw
 upgraded_container bytes = do
   contents ← contents_in bytes
   number ← number_in contents.head
@@ -82,12 +84,8 @@ upgraded_container bytes = do
 -- ---- what answers of calls say
 
 -- an answer, seen by view, is what upgrading gives, unless memory ran out
-abbrev pub IsUpgraded : {X Y : Type 0} → (X → Y) → Result Y UpgradeFault → Result X UpgradeFault
+abbrev pub IsUpgraded : {X Y : Type 0} → (X → Y) → Result Y UpgradeFlaw → Result X UpgradeFault
     → Type 0
 IsUpgraded view made (Ok x) = made ≡ Ok (view x)
-IsUpgraded view made (Err (fault.TooLong n)) = made ≡ Err (fault.TooLong n)
-IsUpgraded view made (Err (fault.Malformed offset flaw)) = made ≡ Err (fault.Malformed offset flaw)
-IsUpgraded view made (Err fault.Already) = made ≡ Err fault.Already
-IsUpgraded view made (Err (fault.OtherPolicy n)) = made ≡ Err (fault.OtherPolicy n)
-IsUpgraded view made (Err (fault.TooBig n)) = made ≡ Err (fault.TooBig n)
+IsUpgraded view made (Err (fault.At e)) = made ≡ Err e
 IsUpgraded view made (Err fault.Memory) = Unit {0}

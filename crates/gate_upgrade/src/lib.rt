@@ -17,7 +17,7 @@ mod limits;
 mod theorems;
 mod upgrading;
 
-pub use fault::UpgradeFault;
+pub use fault::{UpgradeFault, UpgradeFlaw};
 pub use limits::GROWTH;
 pub use theorems::{laws, longer_laws, profile_laws};
 pub use upgrading::upgraded;

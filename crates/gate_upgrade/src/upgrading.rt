@@ -11,7 +11,7 @@ ghost use Rattle.gate_upgrade.specs.Upgrading.{kind_numbered, contents_in};
 ghost use Rattle.gate_upgrade.specs.Upgrading.{number_in, kind_found, size_within};
 ghost use Rattle.gate_upgrade.specs.Upgrading.{upgraded_container, IsUpgraded};
 
-use crate::fault::UpgradeFault;
+use crate::fault::{UpgradeFault, UpgradeFlaw};
 use crate::limits::GROWTH;
 use policy_set::{Policy, PolicyKind, digest};
 use proof_container::{Container, Head, MAX_BYTES, Malformed, View, read, write};
@@ -24,23 +24,25 @@ fn container_in(alloc: Global, bytes: &[u8]) -> Result<Container<'_>, UpgradeFau
     ensures short { OnOk result (length bytes.now ≤ MAX_BYTES) }
 {
     if bytes.len() > MAX_BYTES as usize {
-        return Err(UpgradeFault::TooLong(bytes.len() as u64));
+        return Err(UpgradeFault::At(UpgradeFlaw::TooLong(bytes.len() as u64)));
     }
     match read(alloc, bytes) {
         Ok(container) => Ok(container),
-        Err(Malformed::At(offset, flaw)) => Err(UpgradeFault::Malformed(offset, flaw)),
+        Err(Malformed::At(offset, flaw)) => {
+            Err(UpgradeFault::At(UpgradeFlaw::Malformed(offset, flaw)))
+        }
         Err(Malformed::Memory) => Err(UpgradeFault::Memory),
     }
 }
 
 /// The number that a container names its policy by, which those of version 1 do, and no others.
 /// Errors: `Already`.
-fn number_in(head: Head) -> Result<u32, UpgradeFault>
-    ensures { IsUpgraded (λ n. n) (number_in head) result }
+fn number_in(head: Head) -> Result<u32, UpgradeFlaw>
+    ensures { result ≡ number_in head }
 {
     match head {
         Head::Number(number) => Ok(number),
-        Head::Digest(_) => Err(UpgradeFault::Already),
+        Head::Digest(_) => Err(UpgradeFlaw::Already),
     }
 }
 
@@ -57,21 +59,21 @@ fn kind_numbered(number: u32) -> Option<PolicyKind>
 }
 
 /// The kind of the built-in policy of a number. Errors: `OtherPolicy`.
-fn kind_found(number: u32) -> Result<PolicyKind, UpgradeFault>
-    ensures { IsUpgraded (λ kind. kind) (kind_found number (kind_numbered number)) result }
+fn kind_found(number: u32) -> Result<PolicyKind, UpgradeFlaw>
+    ensures { result ≡ kind_found number (kind_numbered number) }
 {
     match kind_numbered(number) {
         Some(kind) => Ok(kind),
-        None => Err(UpgradeFault::OtherPolicy(number)),
+        None => Err(UpgradeFlaw::OtherPolicy(number)),
     }
 }
 
 /// A size that a container may have. Errors: `TooBig`.
-fn size_within(size: u64) -> Result<u64, UpgradeFault>
-    ensures { IsUpgraded (λ n. n) (size_within size) result }
+fn size_within(size: u64) -> Result<u64, UpgradeFlaw>
+    ensures { result ≡ size_within size }
 {
     if size > u64::from(MAX_BYTES) {
-        return Err(UpgradeFault::TooBig(size));
+        return Err(UpgradeFlaw::TooBig(size));
     }
     Ok(size)
 }
@@ -90,10 +92,10 @@ fn head_of(alloc: Global, kind: PolicyKind) -> Result<Head, AllocError>
 /// Returns the container of version 2, as bytes, with the code, the invariants and the proof of the
 /// container of version 1 that the bytes are, for its built-in policy.
 ///
-/// Errors, the first of these: `TooLong` past `MAX_BYTES`; `Malformed` if the bytes are no
+/// Errors: `At` the first of these: `TooLong` past `MAX_BYTES`; `Malformed` if the bytes are no
 /// container; `Already` if the container is of a later version; `OtherPolicy` if no built-in policy
-/// has the number that it names; `TooBig` if there would be more than `MAX_BYTES` bytes; `Memory`,
-/// which says nothing about the bytes.
+/// has the number that it names; `TooBig` if there would be more than `MAX_BYTES` bytes.
+/// `Memory` says nothing about the bytes.
 #[tactic(auto, unfolding(crate::specs::Upgrading::upgraded_container))]
 pub fn upgraded(alloc: Global, bytes: &[u8]) -> Result<Vec<u8>, UpgradeFault>
     ensures exact { IsUpgraded (λ out. out.items) (upgraded_container bytes.now) result }

@@ -4,7 +4,7 @@ use Rattle.file_port.specs.Events.{Given, whole, missing, too_long, failed, no_m
 use Rattle.file_port.specs.Files.{FilesState}
 use Rattle.file_port.specs.declared.Put.{Put}
 use Rattle.policy_set.specs.Views.{PolicyView, IsPolicy}
-use Rattle.policy_set.specs.declared.fault.PolicyFault.{PolicyFault}
+use Rattle.policy_set.specs.declared.fault.PolicyFlaw.{PolicyFlaw}
 use Rattle.policy_set.specs.PolicyText.{SpellsPolicy, policy_read}
 use Rattle.pcc_gate.specs.First.{first_refusal}
 use Rattle.pcc_gate.specs.Laws.{AcceptedFirst}
@@ -42,10 +42,10 @@ module _ (accepted_first : AcceptedFirst) (policies : ReadsPolicies) (name file 
   unfolding policy_in
   checked-spelled text policy is = ap (λ r. policy_spelled r >>= judged_behind) is
 
-  checked-unspelled : (text : List ℕ) (fault : PolicyFault) → policy_read text ≡ Err fault
-      → checked_by text ≡ stops (no_policy_spelled fault)
+  checked-unspelled : (text : List ℕ) (flaw : PolicyFlaw) → policy_read text ≡ Err flaw
+      → checked_by text ≡ stops (no_policy_spelled flaw)
   unfolding policy_in
-  checked-unspelled text fault is = ap (λ r. policy_spelled r >>= judged_behind) is
+  checked-unspelled text flaw is = ap (λ r. policy_spelled r >>= judged_behind) is
 
   module _
       (events : List Event)
@@ -114,14 +114,14 @@ module _ (accepted_first : AcceptedFirst) (policies : ReadsPolicies) (name file 
               ∙ ap change_at (sym r.goes) ∙ ap change_at d.4 in
               absurd (true≢false (sym (ap is_some none)))
 
-      checked_whole : (text : List ℕ) (rest : List Event) (r : Result PolicyView PolicyFault)
+      checked_whole : (text : List ℕ) (rest : List Event) (r : Result PolicyView PolicyFlaw)
           → policy_read text ≡ r → e.asked ≡ was_read name MAX_POLICY_FILE (whole text) ∷ rest
           → Follows texts rest (checked_by text) e.later → ChecksFrom name file events exit
       checked_whole text rest (Ok policy) read is follows =
           checked text policy rest read is follows
-      checked_whole text rest (Err fault) read is follows =
-          no_policy (whole text) (no_policy_spelled fault) rest is
-          (checked-unspelled text fault read) follows (fault, read, refl)
+      checked_whole text rest (Err flaw) read is follows =
+          no_policy (whole text) (no_policy_spelled flaw) rest is
+          (checked-unspelled text flaw read) follows (flaw, read, refl)
 
       checked_given : (given : Given) (rest : List Event)
           → e.asked ≡ was_read name MAX_POLICY_FILE given ∷ rest

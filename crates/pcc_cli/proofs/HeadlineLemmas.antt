@@ -27,10 +27,10 @@ use Rattle.pcc_gate.specs.Accepted.{IsAccepted}
 use Rattle.pcc_gate.specs.First.{first_refusal}
 use Rattle.pcc_gate.specs.Laws.{AcceptedFirst}
 use Rattle.pcc_gate.specs.Safe.{AcceptedSafe, AcceptedReturns}
-use Rattle.bounds_prover.specs.declared.fault.ProveFault.{ProveFault}
+use Rattle.bounds_prover.specs.declared.fault.ProveFlaw.{ProveFlaw}
 use Rattle.bounds_prover.specs.Proving.{proved_container}
 use Rattle.bounds_prover.specs.ProvedLaws.{ProvedAccepted}
-use Rattle.gate_upgrade.specs.declared.fault.UpgradeFault.{UpgradeFault}
+use Rattle.gate_upgrade.specs.declared.fault.UpgradeFlaw.{UpgradeFlaw}
 use Rattle.gate_upgrade.specs.Upgrading.{upgraded_container}
 use Rattle.gate_upgrade.specs.Upgrades.{IsUpgrade}
 use Rattle.gate_upgrade.specs.Laws.{UpgradedExactly, UpgradedAccepted}
@@ -418,7 +418,7 @@ module _ (input output : List ℕ) (max : ℕ) (more : Exit) (made_of : List ℕ
 
 -- what the prover made is accepted
 proved_is : ProvedAccepted → (under : PolicyView) (b out : List ℕ) → IsPolicy under → IsBytes b
-    → (r : Result (List ℕ) ProveFault) → proved_container under b ≡ r → container_proved r
+    → (r : Result (List ℕ) ProveFlaw) → proved_container under b ≡ r → container_proved r
     ≡ gives out → ProvesTo under b out
 proved_is proved_accepted under b out kept held (Ok bytes) is e =
     let same : Some bytes ≡ Some out = ap value_at e in
@@ -480,7 +480,7 @@ pub record UpgradesContainers : Type 0 where
   pub accepted : UpgradedAccepted
 
 upgraded_is : UpgradesContainers → (b out : List ℕ) → IsBytes b
-    → (r : Result (List ℕ) UpgradeFault) → upgraded_container b ≡ r
+    → (r : Result (List ℕ) UpgradeFlaw) → upgraded_container b ≡ r
     → container_upgraded r ≡ gives out → UpgradesTo b out
 upgraded_is laws b out held (Ok bytes) is e =
     let same : Some bytes ≡ Some out = ap value_at e in

@@ -10,9 +10,8 @@ use Rattle.alpha_cfg.specs.CodeDecoding.{decoded_code}
 use Rattle.policy_set.specs.Views.{PolicyView}
 use Rattle.policy_set.specs.Names.{policy_of}
 use Rattle.policy_set.specs.PolicyText.{policy_read}
-use Rattle.policy_set.specs.declared.fault.PolicyFault.{PolicyFault}
-use Rattle.policy_set.specs.declared.fault.PolicyFault.TheVariants as policy_fault
-use Rattle.formula_text.specs.declared.fault.TextFault.TheVariants as text_fault
+use Rattle.policy_set.specs.declared.fault.PolicyFlaw.{PolicyFlaw}
+use Rattle.policy_set.specs.declared.fault.PolicyFlaw.TheVariants as policy_flaw
 use Rattle.formula_text.specs.Names.{text_flaw_name}
 use Rattle.proof_container.specs.Contents.{Contents}
 use Rattle.proof_container.specs.Decoding.{Fault, decoded_container}
@@ -26,8 +25,8 @@ use Rattle.asm_text.specs.SourceParsing.{parsed_source}
 use Rattle.pcc_asm.specs.declared.fault.AsmFlaw.{AsmFlaw}
 use Rattle.pcc_asm.specs.Names.{asm_flaw_line, asm_flaw_name}
 use Rattle.pcc_asm.specs.Assembling.{assembled_contents}
-use Rattle.bounds_prover.specs.declared.fault.ProveFault.{ProveFault}
-use Rattle.bounds_prover.specs.declared.fault.ProveFault.TheVariants as fault
+use Rattle.bounds_prover.specs.declared.fault.ProveFlaw.{ProveFlaw}
+use Rattle.bounds_prover.specs.declared.fault.ProveFlaw.TheVariants as flaw
 use Rattle.bounds_prover.specs.Names.{measure_name}
 use Rattle.bounds_prover.specs.declared.fault.Measure.TheVariants.{Bytes}
 use Rattle.bounds_prover.specs.Proving.{proved_container}
@@ -41,8 +40,8 @@ use Rattle.pcc_gate.specs.declared.refusal.Refusal.{Refusal}
 use Rattle.pcc_gate.specs.declared.refusal.Refusal.TheVariants as refusal
 use Rattle.pcc_gate.specs.First.{first_refusal}
 use Rattle.pcc_gate.specs.ForPolicy.{is_for}
-use Rattle.gate_upgrade.specs.declared.fault.UpgradeFault.{UpgradeFault}
-use Rattle.gate_upgrade.specs.declared.fault.UpgradeFault.TheVariants as upgrade_fault
+use Rattle.gate_upgrade.specs.declared.fault.UpgradeFlaw.{UpgradeFlaw}
+use Rattle.gate_upgrade.specs.declared.fault.UpgradeFlaw.TheVariants as upgrade_flaw
 use Rattle.gate_upgrade.specs.Upgrading.{upgraded_container}
 use Rattle.pcc_words.specs.Invocations.{named, from_file, Invocation, asm, prove, check, run, ref, demo, upgrade, host, bpf}
 use Rattle.reference_machine.specs.Starts.{StartView}
@@ -285,45 +284,40 @@ module _ (names : Option (List (List ℕ))) where
       (source_found-fits (parsed_source (profile_of version) (is_some bound) text))
       (λ source. container_made-fits (assembled_contents version bound policy source))
 
-  container_proved-fits : (r : Result (List ℕ) ProveFault) → Fits (container_proved r)
+  container_proved-fits : (r : Result (List ℕ) ProveFlaw) → Fits (container_proved r)
   container_proved-fits (Ok bytes) = refl
-  container_proved-fits (Err (fault.Refused r)) = inl (refusal_stop r)
-  container_proved-fits (Err (fault.NotEasy part)) =
+  container_proved-fits (Err (flaw.Refused r)) = inl (refusal_stop r)
+  container_proved-fits (Err (flaw.NotEasy part)) =
       inl (let first : get_or (not_easy_line part) 0 0 ≡ 110 = not_easy-first part in stop_line (not_easy_line part) (omega arith))
-  container_proved-fits (Err (fault.TooBig measure number)) =
+  container_proved-fits (Err (flaw.TooBig measure number)) =
       inl (too_big_stop (measure_name measure) number)
-  container_proved-fits (Err fault.Memory) = inr refl
-  container_proved-fits (Err fault.Results) = inr refl
 
   proved_in-fits : (policy : PolicyView) (bytes : List ℕ) → Fits (proved_in policy bytes)
   unfolding proved_in
   proved_in-fits policy bytes = container_proved-fits (proved_container policy bytes)
 
-  policy_spelled-fits : (r : Result PolicyView PolicyFault) → Fits (policy_spelled r)
+  policy_spelled-fits : (r : Result PolicyView PolicyFlaw) → Fits (policy_spelled r)
   policy_spelled-fits (Ok policy) = refl
-  policy_spelled-fits (Err (policy_fault.Lines count)) = inl (policy_lines_stop count)
-  policy_spelled-fits (Err (policy_fault.Length line)) = inl (policy_length_stop line)
-  policy_spelled-fits (Err (policy_fault.Form line (text_fault.At position flaw))) =
+  policy_spelled-fits (Err (policy_flaw.Lines count)) = inl (policy_lines_stop count)
+  policy_spelled-fits (Err (policy_flaw.Length line)) = inl (policy_length_stop line)
+  policy_spelled-fits (Err (policy_flaw.Form line position flaw)) =
       inl (policy_form_stop line position (text_flaw_name flaw))
-  policy_spelled-fits (Err (policy_fault.Form line text_fault.Memory)) = inr refl
-  policy_spelled-fits (Err policy_fault.Memory) = inr refl
 
   policy_in-fits : (bytes : List ℕ) → Fits (policy_in bytes)
   unfolding policy_in
   policy_in-fits bytes = policy_spelled-fits (policy_read bytes)
 
-  container_upgraded-fits : (r : Result (List ℕ) UpgradeFault) → Fits (container_upgraded r)
+  container_upgraded-fits : (r : Result (List ℕ) UpgradeFlaw) → Fits (container_upgraded r)
   container_upgraded-fits (Ok bytes) = refl
-  container_upgraded-fits (Err (upgrade_fault.TooLong length)) =
+  container_upgraded-fits (Err (upgrade_flaw.TooLong length)) =
       inl (refusal_stop (refusal.TooLong length))
-  container_upgraded-fits (Err (upgrade_fault.Malformed offset flaw)) =
+  container_upgraded-fits (Err (upgrade_flaw.Malformed offset flaw)) =
       inl (refusal_stop (refusal.Malformed offset flaw))
-  container_upgraded-fits (Err upgrade_fault.Already) = inl (stop_line already_line (omega arith))
-  container_upgraded-fits (Err (upgrade_fault.OtherPolicy n)) =
+  container_upgraded-fits (Err upgrade_flaw.Already) = inl (stop_line already_line (omega arith))
+  container_upgraded-fits (Err (upgrade_flaw.OtherPolicy n)) =
       inl (refusal_stop (refusal.OtherPolicy (Number n)))
-  container_upgraded-fits (Err (upgrade_fault.TooBig size)) =
+  container_upgraded-fits (Err (upgrade_flaw.TooBig size)) =
       inl (too_big_stop (measure_name Bytes) size)
-  container_upgraded-fits (Err upgrade_fault.Memory) = inr refl
 
   upgraded_in-fits : (bytes : List ℕ) → Fits (upgraded_in bytes)
   unfolding upgraded_in

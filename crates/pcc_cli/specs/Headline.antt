@@ -11,7 +11,7 @@ use Rattle.alpha_cfg.specs.declared.outcome.Outcome.TheVariants.{Returned}
 use Rattle.policy_set.specs.declared.kind.PolicyKind.TheVariants.{Filter}
 use Rattle.policy_set.specs.Views.{PolicyView, built_in, IsPolicy}
 use Rattle.policy_set.specs.Names.{policy_of}
-use Rattle.policy_set.specs.declared.fault.PolicyFault.{PolicyFault}
+use Rattle.policy_set.specs.declared.fault.PolicyFlaw.{PolicyFlaw}
 use Rattle.policy_set.specs.PolicyText.{SpellsPolicy, policy_read}
 use Rattle.reference_machine.specs.declared.layout.TheConstants.{ARENA, QUADWORDS}
 use Rattle.reference_machine.specs.Starts.{StartView, start_state}
@@ -118,7 +118,7 @@ pub record Checks (policy : PolicyView) (file : List ℕ) (events : List Event) 
 -- what `check @NAME` prints of what its read of NAME gave, where that spells no policy
 abbrev pub IsNoPolicy : List ℕ → Given → Exit → Type 0
 IsNoPolicy name (whole text) exit =
-    (fault : PolicyFault) × (policy_read text ≡ Err fault) × (exit ≡ no_policy_spelled fault)
+    (flaw : PolicyFlaw) × (policy_read text ≡ Err flaw) × (exit ≡ no_policy_spelled flaw)
 IsNoPolicy name missing exit = exit ≡ missing_exit texts name
 IsNoPolicy name too_long exit = exit ≡ refused policy_too_long_line
 IsNoPolicy name failed exit = exit ≡ read_fault_exit texts name

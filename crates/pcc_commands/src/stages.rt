@@ -25,11 +25,11 @@ ghost use Rattle.pcc_commands.specs.Inside.Shows.{IsOfGate, shown_by};
 use crate::report::Report;
 use agent_script::{MAX_SCRIPT, Script, ScriptFault, read_script};
 use asm_text::{LineFault, MAX_SOURCE, Source, read_source};
-use bounds_prover::{Measure, ProveFault, prove};
+use bounds_prover::{Measure, ProveFault, ProveFlaw, prove};
 use bpf_compile::compile;
 use bpf_words::{Bpf, BpfFault, read_bpf};
 use file_port::{Files, Put};
-use gate_upgrade::{UpgradeFault, upgraded};
+use gate_upgrade::{UpgradeFault, UpgradeFlaw, upgraded};
 use pcc_asm::{AsmFault, assemble};
 use pcc_gate::{Accepted, GateFault, Refusal, gate};
 use pcc_stages::{RefusedLine, Stop, bytes_of, container_bytes_of};
@@ -73,11 +73,15 @@ pub fn proved_in<'a>(alloc: Global, policy: &Policy, bytes: &[u8]) -> Result<Vec
 {
     match prove(alloc, policy, bytes) {
         Ok(container) => Ok(container),
-        Err(ProveFault::Refused(refusal)) => Err(Stop::Refused(RefusedLine::Container(refusal))),
-        Err(ProveFault::NotEasy(part)) => Err(Stop::Refused(RefusedLine::NotEasy(part))),
-        Err(ProveFault::TooBig(measure, number)) => Err(Stop::Refused(RefusedLine::TooBig(
-            measure, number,
-        ))),
+        Err(ProveFault::At(ProveFlaw::Refused(refusal))) => {
+            Err(Stop::Refused(RefusedLine::Container(refusal)))
+        }
+        Err(ProveFault::At(ProveFlaw::NotEasy(part))) => {
+            Err(Stop::Refused(RefusedLine::NotEasy(part)))
+        }
+        Err(ProveFault::At(ProveFlaw::TooBig(measure, number))) => {
+            Err(Stop::Refused(RefusedLine::TooBig(measure, number)))
+        }
         Err(ProveFault::Memory | ProveFault::Results) => Err(Stop::Memory),
     }
 }
@@ -213,17 +217,17 @@ fn upgraded_in<'a>(alloc: Global, bytes: &[u8]) -> Result<Vec<u8>, Stop<'a>>
 {
     match upgraded(alloc, bytes) {
         Ok(container) => Ok(container),
-        Err(UpgradeFault::TooLong(length)) => Err(Stop::Refused(RefusedLine::Container(
-            Refusal::TooLong(length),
-        ))),
-        Err(UpgradeFault::Malformed(offset, flaw)) => Err(Stop::Refused(RefusedLine::Container(
-            Refusal::Malformed(offset, flaw),
-        ))),
-        Err(UpgradeFault::Already) => Err(Stop::Refused(RefusedLine::Already)),
-        Err(UpgradeFault::OtherPolicy(number)) => Err(Stop::Refused(RefusedLine::Container(
-            Refusal::OtherPolicy(Head::Number(number)),
-        ))),
-        Err(UpgradeFault::TooBig(size)) => {
+        Err(UpgradeFault::At(UpgradeFlaw::TooLong(length))) => Err(Stop::Refused(
+            RefusedLine::Container(Refusal::TooLong(length)),
+        )),
+        Err(UpgradeFault::At(UpgradeFlaw::Malformed(offset, flaw))) => Err(Stop::Refused(
+            RefusedLine::Container(Refusal::Malformed(offset, flaw)),
+        )),
+        Err(UpgradeFault::At(UpgradeFlaw::Already)) => Err(Stop::Refused(RefusedLine::Already)),
+        Err(UpgradeFault::At(UpgradeFlaw::OtherPolicy(number))) => Err(Stop::Refused(
+            RefusedLine::Container(Refusal::OtherPolicy(Head::Number(number))),
+        )),
+        Err(UpgradeFault::At(UpgradeFlaw::TooBig(size))) => {
             Err(Stop::Refused(RefusedLine::TooBig(Measure::Bytes, size)))
         }
         Err(UpgradeFault::Memory) => Err(Stop::Memory),

@@ -9,9 +9,8 @@ use crate::files::{MAX_POLICY_FILE, bytes_of};
 use crate::refused_line::RefusedLine;
 use crate::stops::Stop;
 use file_port::Files;
-use formula_text::TextFault;
 use pcc_words::PolicyWord;
-use policy_set::{Policy, PolicyFault, by_name, read_policy};
+use policy_set::{Policy, PolicyFault, PolicyFlaw, by_name, read_policy};
 use std::alloc::Global;
 
 /// Returns the built-in policy with this name; stops if there is none.
@@ -32,14 +31,16 @@ fn policy_in<'a>(alloc: Global, bytes: &[u8]) -> Result<Policy, Stop<'a>>
 {
     match read_policy(alloc, bytes) {
         Ok(policy) => Ok(policy),
-        Err(PolicyFault::Lines(count)) => {
+        Err(PolicyFault::At(PolicyFlaw::Lines(count))) => {
             Err(Stop::Refused(RefusedLine::PolicyLines(count as u64)))
         }
-        Err(PolicyFault::Length(line)) => Err(Stop::Refused(RefusedLine::PolicyLength(line))),
-        Err(PolicyFault::Form(line, TextFault::At(position, flaw))) => Err(Stop::Refused(
+        Err(PolicyFault::At(PolicyFlaw::Length(line))) => {
+            Err(Stop::Refused(RefusedLine::PolicyLength(line)))
+        }
+        Err(PolicyFault::At(PolicyFlaw::Form(line, position, flaw))) => Err(Stop::Refused(
             RefusedLine::PolicyForm(line, position as u64, flaw),
         )),
-        Err(PolicyFault::Form(_, TextFault::Memory) | PolicyFault::Memory) => Err(Stop::Memory),
+        Err(PolicyFault::Memory) => Err(Stop::Memory),
     }
 }
 

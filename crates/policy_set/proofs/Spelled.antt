@@ -12,6 +12,8 @@ use Rattle.formula_text.proofs.Joined.{spelled_parsed, parsed_spelled}
 use Rattle.formula_text.proofs.Closed.{spelled_closed}
 use Rattle.policy_set.specs.declared.fault.PolicyFault.{PolicyFault}
 use Rattle.policy_set.specs.declared.fault.PolicyFault.TheVariants as fault
+use Rattle.policy_set.specs.declared.fault.PolicyFlaw.{PolicyFlaw}
+use Rattle.policy_set.specs.declared.fault.PolicyFlaw.TheVariants as flaw
 use Rattle.policy_set.specs.declared.limits.TheConstants.{MAX_FORM_LINE}
 use Rattle.policy_set.specs.Policies.{pre_of, post_of}
 use Rattle.policy_set.specs.Views.{PolicyView, IsPolicy}
@@ -21,7 +23,7 @@ use Rattle.policy_set.proofs.Heights.{spelled-low}
 -- ---- what is spelled is read
 
 -- what is read of two lines
-abbrev both_forms : List ℕ × List ℕ → Result PolicyView PolicyFault
+abbrev both_forms : List ℕ × List ℕ → Result PolicyView PolicyFlaw
 both_forms lines =
     line_form 1 lines.0 >>= λ pre.
     line_form 2 lines.1 >>= λ post.
@@ -30,10 +32,10 @@ both_forms lines =
 short-lines : (first second : List ℕ) → length first ≤ MAX_FORM_LINE → length second ≤ MAX_FORM_LINE
     → form_lines (first ∷ second ∷ []) ≡ Ok (first, second)
 short-lines first second p q =
-    cond-false (nat_lt MAX_FORM_LINE (length first)) (Err (fault.Length 1))
-    (cond (nat_lt MAX_FORM_LINE (length second)) (Err (fault.Length 2)) (Ok (first, second)))
+    cond-false (nat_lt MAX_FORM_LINE (length first)) (Err (flaw.Length 1))
+    (cond (nat_lt MAX_FORM_LINE (length second)) (Err (flaw.Length 2)) (Ok (first, second)))
     (le-ltb MAX_FORM_LINE (length first) p)
-    ∙ cond-false (nat_lt MAX_FORM_LINE (length second)) (Err (fault.Length 2)) (Ok (first, second))
+    ∙ cond-false (nat_lt MAX_FORM_LINE (length second)) (Err (flaw.Length 2)) (Ok (first, second))
     (le-ltb MAX_FORM_LINE (length second) q)
 
 -- a policy without a kind is that of its formulas
@@ -48,7 +50,7 @@ spelled-read bytes policy h =
     let promised = spelled_parsed Two false h.second policy.post h.promised in
     ap (λ (ls : List (List ℕ)). form_lines ls >>= both_forms)
     (lines_are bytes (h.first ∷ h.second ∷ []) h.lines)
-    ∙ ap (λ (o : Result (List ℕ × List ℕ) PolicyFault). o >>= both_forms)
+    ∙ ap (λ (o : Result (List ℕ × List ℕ) PolicyFlaw). o >>= both_forms)
     (short-lines h.first h.second h.first_short h.second_short)
     ∙ ap (λ (o : Result Form FaultAt).
     in_line 1 o >>= λ pre. line_form 2 h.second >>= λ post. Ok (from_file pre post)) asked
@@ -83,7 +85,7 @@ module _ (bytes : List ℕ) (policy : PolicyView) where
 
   by-second : (first second : List ℕ) → lines_of bytes ≡ first ∷ second ∷ []
       → length first ≤ MAX_FORM_LINE → (t : Bool) → nat_lt MAX_FORM_LINE (length second) ≡ t
-      → (cond t (Err (fault.Length 2)) (Ok (first, second)) >>= both_forms) ≡ Ok policy
+      → (cond t (Err (flaw.Length 2)) (Ok (first, second)) >>= both_forms) ≡ Ok policy
       → SpellsPolicy bytes policy
   by-second first second e p true l h = cc
   by-second first second e p false l h =
@@ -92,8 +94,8 @@ module _ (bytes : List ℕ) (policy : PolicyView) where
 
   by-first : (first second : List ℕ) → lines_of bytes ≡ first ∷ second ∷ []
       → (t : Bool) → nat_lt MAX_FORM_LINE (length first) ≡ t
-      → (cond t (Err (fault.Length 1)) (cond (nat_lt MAX_FORM_LINE (length second))
-      (Err (fault.Length 2)) (Ok (first, second))) >>= both_forms) ≡ Ok policy
+      → (cond t (Err (flaw.Length 1)) (cond (nat_lt MAX_FORM_LINE (length second))
+      (Err (flaw.Length 2)) (Ok (first, second))) >>= both_forms) ≡ Ok policy
       → SpellsPolicy bytes policy
   by-first first second e true l h = cc
   by-first first second e false l h =
@@ -120,7 +122,7 @@ spells-if bytes (Ok policy) h = read-spelled bytes policy h
 spells-if bytes (Err e) h = tt
 
 -- bytes that have a fault aren't read as a policy
-no-policy : (bytes : List ℕ) (e : PolicyFault) → policy_read bytes ≡ Err e → (policy : PolicyView)
+no-policy : (bytes : List ℕ) (e : PolicyFlaw) → policy_read bytes ≡ Err e → (policy : PolicyView)
     → SpellsPolicy bytes policy → ⊥
 no-policy bytes e h policy s = let both = sym h ∙ spelled-read bytes policy s in cc
 
@@ -128,9 +130,7 @@ pub none-if : (bytes : List ℕ) (r : Result PolicyView PolicyFault)
     → IsPolicyAnswer (λ policy. policy) (policy_read bytes) r
     → IfErr r (λ e. SpellsNoPolicy bytes e)
 none-if bytes (Ok policy) h = tt
-none-if bytes (Err (fault.Lines n)) h = no-policy bytes (fault.Lines n) h
-none-if bytes (Err (fault.Length n)) h = no-policy bytes (fault.Length n) h
-none-if bytes (Err (fault.Form n e)) h = no-policy bytes (fault.Form n e) h
+none-if bytes (Err (fault.At e)) h = no-policy bytes e h
 none-if bytes (Err fault.Memory) h = tt
 
 -- ---- what it keeps

@@ -4,11 +4,12 @@ use Rattle.word_ops.specs.declared.Profile.TheVariants.{Two}
 use Rattle.term_table.specs.Steps.{◌>>=◌}
 use Rattle.text_tokens.specs.Lines.{AreLines, lines_of}
 use Rattle.formula_tree.specs.Formulas.{Form}
-use Rattle.formula_text.specs.declared.fault.TextFault.TheVariants as text
 use Rattle.formula_text.specs.Grammar.{Spells}
 use Rattle.formula_text.specs.Parsing.{FaultAt, parsed_form}
 use Rattle.policy_set.specs.declared.fault.PolicyFault.{PolicyFault}
 use Rattle.policy_set.specs.declared.fault.PolicyFault.TheVariants as fault
+use Rattle.policy_set.specs.declared.fault.PolicyFlaw.{PolicyFlaw}
+use Rattle.policy_set.specs.declared.fault.PolicyFlaw.TheVariants as flaw
 use Rattle.policy_set.specs.declared.limits.TheConstants.{MAX_FORM_LINE}
 use Rattle.policy_set.specs.Views.{PolicyView}
 
@@ -31,25 +32,25 @@ abbrev pub from_file : Form → Form → PolicyView
 from_file pre post = record { kind = None; pre = pre; post = post }
 
 -- the two lines of formulas, where there are two and neither is long
-abbrev pub form_lines : List (List ℕ) → Result (List ℕ × List ℕ) PolicyFault
+abbrev pub form_lines : List (List ℕ) → Result (List ℕ × List ℕ) PolicyFlaw
 form_lines (first ∷ second ∷ []) =
-    if nat_lt MAX_FORM_LINE (length first) then Err (fault.Length 1) else
-    if nat_lt MAX_FORM_LINE (length second) then Err (fault.Length 2) else
+    if nat_lt MAX_FORM_LINE (length first) then Err (flaw.Length 1) else
+    if nat_lt MAX_FORM_LINE (length second) then Err (flaw.Length 2) else
     Ok (first, second)
-form_lines lines = Err (fault.Lines (length lines))
+form_lines lines = Err (flaw.Lines (length lines))
 
 -- a fault of a formula, in the line of this number
-abbrev pub in_line : ℕ → Result Form FaultAt → Result Form PolicyFault
+abbrev pub in_line : ℕ → Result Form FaultAt → Result Form PolicyFlaw
 in_line n (Ok F) = Ok F
-in_line n (Err (at, flaw)) = Err (fault.Form n (text.At at flaw))
+in_line n (Err (at, what)) = Err (flaw.Form n at what)
 
 -- the formula of a line, or its first fault
-abbrev pub line_form : ℕ → List ℕ → Result Form PolicyFault
+abbrev pub line_form : ℕ → List ℕ → Result Form PolicyFlaw
 line_form n line = in_line n (parsed_form Two false line)
 
 -- the policy that the bytes spell, or the first of their faults: both lengths come before both
 -- formulas
-abbrev pub policy_read : List ℕ → Result PolicyView PolicyFault
+abbrev pub policy_read : List ℕ → Result PolicyView PolicyFlaw
 policy_read bytes =
     form_lines (lines_of bytes) >>= λ lines.
     line_form 1 lines.0 >>= λ pre.
@@ -59,15 +60,13 @@ policy_read bytes =
 -- ---- what answers of calls say
 
 -- an answer, seen by view, is what reading gives, unless memory ran out
-abbrev pub IsPolicyAnswer : {X Y : Type 0} → (X → Y) → Result Y PolicyFault
+abbrev pub IsPolicyAnswer : {X Y : Type 0} → (X → Y) → Result Y PolicyFlaw
     → Result X PolicyFault → Type 0
 IsPolicyAnswer view read (Ok x) = read ≡ Ok (view x)
-IsPolicyAnswer view read (Err (fault.Lines n)) = read ≡ Err (fault.Lines n)
-IsPolicyAnswer view read (Err (fault.Length n)) = read ≡ Err (fault.Length n)
-IsPolicyAnswer view read (Err (fault.Form n e)) = read ≡ Err (fault.Form n e)
+IsPolicyAnswer view read (Err (fault.At e)) = read ≡ Err e
 IsPolicyAnswer view read (Err fault.Memory) = Unit {0}
 
 -- the bytes spell no policy
 abbrev pub SpellsNoPolicy : List ℕ → PolicyFault → Type 0
 SpellsNoPolicy bytes fault.Memory = Unit {0}
-SpellsNoPolicy bytes e = (policy : PolicyView) → SpellsPolicy bytes policy → ⊥
+SpellsNoPolicy bytes (fault.At e) = (policy : PolicyView) → SpellsPolicy bytes policy → ⊥

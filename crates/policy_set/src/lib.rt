@@ -22,7 +22,7 @@ mod reading;
 mod theorems;
 
 pub use digests::digest;
-pub use fault::PolicyFault;
+pub use fault::{PolicyFault, PolicyFlaw};
 pub use kind::PolicyKind;
 pub use limits::{MAX_FORM_HEIGHT, MAX_FORM_LINE};
 pub use policy::{Policy, by_name};

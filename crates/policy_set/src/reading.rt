@@ -7,7 +7,7 @@ ghost use Rattle.policy_set.specs.Views.{IsPolicyForm};
 ghost use Rattle.policy_set.specs.PolicyText.{form_lines, line_form, policy_read, IsPolicyAnswer};
 ghost use Rattle.policy_set.specs.PolicyText.{SpellsPolicy, SpellsNoPolicy};
 
-use crate::fault::PolicyFault;
+use crate::fault::{PolicyFault, PolicyFlaw};
 use crate::limits::MAX_FORM_LINE;
 use crate::policy::Policy;
 use formula_text::{TextFault, read_form};
@@ -17,7 +17,7 @@ use text_tokens::{line_count, split_line};
 use word_ops::Profile;
 
 /// Returns the two lines of formulas. Errors: `Lines` and `Length`.
-fn form_lines(bytes: &[u8]) -> Result<(&[u8], &[u8]), PolicyFault>
+fn form_lines(bytes: &[u8]) -> Result<(&[u8], &[u8]), PolicyFlaw>
     ensures exact { MatchResult result
         (λ lines. form_lines (lines_of bytes.now) ≡ Ok (lines.0.now, lines.1.now))
         (λ e. form_lines (lines_of bytes.now) ≡ Err e) }
@@ -26,15 +26,15 @@ fn form_lines(bytes: &[u8]) -> Result<(&[u8], &[u8]), PolicyFault>
 {
     let count = line_count(bytes);
     if count != 2 {
-        return Err(PolicyFault::Lines(count));
+        return Err(PolicyFlaw::Lines(count));
     }
     let (first, behind) = split_line(bytes);
     let (second, _) = split_line(behind);
     if first.len() > MAX_FORM_LINE {
-        return Err(PolicyFault::Length(1));
+        return Err(PolicyFlaw::Length(1));
     }
     if second.len() > MAX_FORM_LINE {
-        return Err(PolicyFault::Length(2));
+        return Err(PolicyFlaw::Length(2));
     }
     Ok((first, second))
 }
@@ -49,7 +49,7 @@ fn line_form(alloc: Global, number: u32, line: &[u8]) -> Result<Form, PolicyFaul
     match read_form(alloc, line, Profile::Two, false) {
         Ok(form) => Ok(form),
         Err(TextFault::At(position, flaw)) => {
-            Err(PolicyFault::Form(number, TextFault::At(position, flaw)))
+            Err(PolicyFault::At(PolicyFlaw::Form(number, position, flaw)))
         }
         Err(TextFault::Memory) => Err(PolicyFault::Memory),
     }
@@ -72,9 +72,9 @@ fn parse(alloc: Global, bytes: &[u8]) -> Result<Policy, PolicyFault>
 /// postcondition as formula text over the operators of both profiles. LF ends a line, one CR before
 /// it is dropped, and the last LF may be missing.
 ///
-/// Errors, the first of these: `Lines` if there aren't two lines; `Length` of line 1, then of line
+/// Errors: `At` the first of these: `Lines` if there aren't two lines; `Length` of line 1, then of line
 /// 2, if it has more than `MAX_FORM_LINE` bytes; `Form` of line 1, then of line 2, if it is no
-/// formula; `Memory` says nothing about the file.
+/// formula. `Memory` says nothing about the file.
 pub fn read_policy(alloc: Global, bytes: &[u8]) -> Result<Policy, PolicyFault>
     ensures spells { IfOk result (λ policy. SpellsPolicy bytes.now policy) }
     ensures none { IfErr result (λ e. SpellsNoPolicy bytes.now e) }

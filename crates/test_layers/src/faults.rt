@@ -2,80 +2,79 @@
 //! `check.rows`, `prove.rows`).
 
 use alpha_cfg::CodeFlaw;
-use bounds_prover::{Measure, ProveFault};
+use bounds_prover::{Measure, ProveFault, ProveFlaw};
 use pcc_gate::{MAX_WEIGHT, Refusal};
 use proof_container::{Flaw, Head, Malformed};
 use std::alloc::{AllocError, Global};
 use std::test::Fail;
 
 /// A refusal by each clause, and what else keeps a container from getting a proof.
-const IN_WORDS: [(ProveFault, &str); 17] = [
+const IN_WORDS: [(ProveFlaw, &str); 16] = [
     (
-        ProveFault::Refused(Refusal::TooLong(4_194_305)),
+        ProveFlaw::Refused(Refusal::TooLong(4_194_305)),
         "refused: 4194305 bytes are too many",
     ),
     (
-        ProveFault::Refused(Refusal::Malformed(16, Flaw::Cut)),
+        ProveFlaw::Refused(Refusal::Malformed(16, Flaw::Cut)),
         "refused: no container: at offset 16, a field is cut short",
     ),
     (
-        ProveFault::Refused(Refusal::OtherPolicy(Head::Number(4))),
+        ProveFlaw::Refused(Refusal::OtherPolicy(Head::Number(4))),
         "refused: for the policy Number(4)",
     ),
     (
-        ProveFault::Refused(Refusal::OtherPolicy(Head::Number(1))),
+        ProveFlaw::Refused(Refusal::OtherPolicy(Head::Number(1))),
         "refused: for the policy Number(1)",
     ),
     (
-        ProveFault::Refused(Refusal::BadCode(CodeFlaw::Target(2))),
+        ProveFlaw::Refused(Refusal::BadCode(CodeFlaw::Target(2))),
         "refused: no code: index 2 branches outside the code",
     ),
     (
-        ProveFault::Refused(Refusal::Height(4_097)),
+        ProveFlaw::Refused(Refusal::Height(4_097)),
         "refused: a term is 4097 high",
     ),
     (
-        ProveFault::Refused(Refusal::InvNotForm(0)),
+        ProveFlaw::Refused(Refusal::InvNotForm(0)),
         "refused: invariant 0 is no formula",
     ),
     (
-        ProveFault::Refused(Refusal::LemmaNotForm(2)),
+        ProveFlaw::Refused(Refusal::LemmaNotForm(2)),
         "refused: the formula of lemma 2 is none",
     ),
     (
-        ProveFault::Refused(Refusal::Uncut(1)),
+        ProveFlaw::Refused(Refusal::Uncut(1)),
         "refused: index 1 is on a cycle without an annotated index",
     ),
     (
-        ProveFault::Refused(Refusal::UnfoldLimit(65_537)),
+        ProveFlaw::Refused(Refusal::UnfoldLimit(65_537)),
         "refused: the unfolded length is 65537",
     ),
     (
-        ProveFault::Refused(Refusal::NoProof),
+        ProveFlaw::Refused(Refusal::NoProof),
         "refused: there is no proof",
     ),
     (
-        ProveFault::Refused(Refusal::ProofWeight(MAX_WEIGHT + 1)),
+        ProveFlaw::Refused(Refusal::ProofWeight(MAX_WEIGHT + 1)),
         "refused: the proof weighs 1048577",
     ),
     (
-        ProveFault::Refused(Refusal::LemmaNotProof(3)),
+        ProveFlaw::Refused(Refusal::LemmaNotProof(3)),
         "refused: the proof of lemma 3 isn't one of its formula",
     ),
     (
-        ProveFault::Refused(Refusal::NotProof),
+        ProveFlaw::Refused(Refusal::NotProof),
         "refused: the proof isn't one of the verification condition",
     ),
-    (ProveFault::NotEasy(2), "part 2 of the condition isn't easy"),
+    (ProveFlaw::NotEasy(2), "part 2 of the condition isn't easy"),
     (
-        ProveFault::TooBig(Measure::Height, 4_100),
+        ProveFlaw::TooBig(Measure::Height, 4_100),
         "too big: Height 4100",
     ),
-    (ProveFault::Memory, "out of memory"),
 ];
 
 /// Whether the fault's words are these.
-fn has_words(alloc: Global, fault: &ProveFault, words: &str) -> Result<bool, AllocError> {
+fn has_words(alloc: Global, fault: ProveFault, words: &str) -> Result<bool, AllocError> {
     Ok(format!(in alloc; "{fault}")?.as_str() == words)
 }
 
@@ -87,9 +86,10 @@ fn is_malformed(alloc: Global, fault: Malformed, words: &str) -> Result<bool, Al
 #[test]
 fn faults_in_words(rt: HostRuntime) -> Result<(), Fail> {
     let a = rt.alloc();
-    for (fault, words) in IN_WORDS.iter() {
-        assert!(rt; has_words(a, fault, words)?, "{words}");
+    for (flaw, words) in IN_WORDS.iter() {
+        assert!(rt; has_words(a, ProveFault::At(*flaw), words)?, "{words}");
     }
+    assert!(rt; has_words(a, ProveFault::Memory, "out of memory")?);
     let fault = Malformed::At(24, Flaw::EntryKind);
     assert!(rt; is_malformed(a, fault, "at offset 24, the entry is of no kind")?);
     assert!(rt; is_malformed(a, Malformed::Memory, "out of memory")?);

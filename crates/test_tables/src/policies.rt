@@ -4,19 +4,18 @@ use crate::bytes::{field, file_bytes};
 use formula_text::{TextFault, print_form};
 use formula_tree::Form;
 use packet_store::start_at;
-use policy_set::{Policy, PolicyFault, by_name, digest, read_policy};
+use policy_set::{Policy, PolicyFault, PolicyFlaw, by_name, digest, read_policy};
 use std::alloc::{AllocError, Global};
 
 /// Why there is no policy.
 fn fault_text(alloc: Global, fault: PolicyFault) -> Result<String, AllocError> {
     match fault {
-        PolicyFault::Lines(count) => format!(in alloc; "Lines {count}"),
-        PolicyFault::Length(line) => format!(in alloc; "Length {line}"),
-        PolicyFault::Form(line, TextFault::At(position, flaw)) => {
+        PolicyFault::At(PolicyFlaw::Lines(count)) => format!(in alloc; "Lines {count}"),
+        PolicyFault::At(PolicyFlaw::Length(line)) => format!(in alloc; "Length {line}"),
+        PolicyFault::At(PolicyFlaw::Form(line, position, flaw)) => {
             let name = flaw.name();
             format!(in alloc; "Form {line} {position} {name}")
         }
-        PolicyFault::Form(_, TextFault::Memory) => format!(in alloc; "no memory"),
         PolicyFault::Memory => format!(in alloc; "no memory"),
     }
 }

@@ -9,10 +9,9 @@ use Rattle.asm_text.specs.Names.{line_flaw_name}
 use Rattle.asm_text.specs.Sources.{Source}
 use Rattle.asm_text.specs.SourceParsing.{parsed_source}
 use Rattle.formula_text.specs.Names.{text_flaw_name}
-use Rattle.formula_text.specs.declared.fault.TextFault.TheVariants as text_fault
 use Rattle.policy_set.specs.Views.{PolicyView}
-use Rattle.policy_set.specs.declared.fault.PolicyFault.{PolicyFault}
-use Rattle.policy_set.specs.declared.fault.PolicyFault.TheVariants as policy_fault
+use Rattle.policy_set.specs.declared.fault.PolicyFlaw.{PolicyFlaw}
+use Rattle.policy_set.specs.declared.fault.PolicyFlaw.TheVariants as policy_flaw
 use Rattle.policy_set.specs.PolicyText.{policy_read}
 use Rattle.packet_store.specs.declared.fault.PacketFault.{PacketFault}
 use Rattle.packet_store.specs.declared.fault.PacketFault.TheVariants as packet_fault
@@ -145,14 +144,12 @@ packets_end (Err fault) = refused_by _ (packet_fault_begins fault) refl
 pub packets_in_end : (bytes : List ℕ) → EndsAs (packets_in bytes)
 packets_in_end bytes = packets_end (decoded_packets bytes)
 
-policy_end : (r : Result PolicyView PolicyFault) → EndsAs (policy_spelled r)
+policy_end : (r : Result PolicyView PolicyFlaw) → EndsAs (policy_spelled r)
 policy_end (Ok policy) = gave policy refl
-policy_end (Err (policy_fault.Lines count)) = refused_by _ (policy_lines_begins count) refl
-policy_end (Err (policy_fault.Length line)) = refused_by _ (policy_length_begins line) refl
-policy_end (Err (policy_fault.Form line (text_fault.At position flaw))) =
+policy_end (Err (policy_flaw.Lines count)) = refused_by _ (policy_lines_begins count) refl
+policy_end (Err (policy_flaw.Length line)) = refused_by _ (policy_length_begins line) refl
+policy_end (Err (policy_flaw.Form line position flaw)) =
     refused_by _ (policy_form_begins line position (text_flaw_name flaw)) refl
-policy_end (Err (policy_fault.Form line text_fault.Memory)) = had_no_memory refl
-policy_end (Err policy_fault.Memory) = had_no_memory refl
 
 pub policy_in_end : (bytes : List ℕ) → EndsAs (policy_in bytes)
 unfolding policy_in

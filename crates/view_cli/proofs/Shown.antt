@@ -29,7 +29,7 @@ use Rattle.pcc_asm.specs.Names.{asm_flaw_line, asm_flaw_name}
 use Rattle.policy_set.specs.Names.{policy_of}
 use Rattle.policy_set.specs.PolicyText.{SpellsPolicy, policy_read}
 use Rattle.policy_set.specs.Views.{PolicyView}
-use Rattle.policy_set.specs.declared.fault.PolicyFault.{PolicyFault}
+use Rattle.policy_set.specs.declared.fault.PolicyFlaw.{PolicyFlaw}
 use Rattle.policy_set.specs.declared.kind.PolicyKind.{PolicyKind}
 use Rattle.packet_store.specs.declared.fault.PacketFault.{PacketFault}
 use Rattle.packet_store.specs.declared.results.PacketResult.{PacketResult}
@@ -45,7 +45,7 @@ use Rattle.pcc_gate.specs.First.{formulas, front_refusal, lemma_refusal}
 use Rattle.pcc_gate.specs.declared.refusal.Refusal.{Refusal}
 use Rattle.prover_class.specs.Parts.{condition_proof}
 use Rattle.prover_conditions.specs.Conditions.{condition_parts}
-use Rattle.bounds_prover.specs.declared.fault.ProveFault.TheVariants.{NotEasy}
+use Rattle.bounds_prover.specs.declared.fault.ProveFlaw.TheVariants.{NotEasy}
 use Rattle.bounds_prover.specs.Proving.{made_unless, proved_read, proved_code, with_parts_proof, proved_contents, proved_container}
 use Rattle.view_container.specs.Laws.{AreLineNumbers, IsListedSource}
 use Rattle.view_container.specs.Listing.{listing_text}
@@ -170,7 +170,7 @@ packets_are : (r : Result (List (List ℕ)) PacketFault) (all : List (List ℕ))
 packets_are (Ok d) all is = ap (λ (s : Stage (List (List ℕ))). Ok (value_of all s)) is
 packets_are (Err fault) all is = gives_none all _ is
 
-policy_is : (r : Result PolicyView PolicyFault) (under : PolicyView) → policy_spelled r ≡ gives under
+policy_is : (r : Result PolicyView PolicyFlaw) (under : PolicyView) → policy_spelled r ≡ gives under
     → r ≡ Ok under
 policy_is (Ok d) under is = ap (λ (s : Stage PolicyView). Ok (value_of under s)) is
 policy_is (Err fault) under is = gives_none under _ is

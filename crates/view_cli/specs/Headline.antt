@@ -30,7 +30,7 @@ use Rattle.proof_container.specs.Versions.{profile_of}
 use Rattle.pcc_gate.specs.First.{lemma_refusal}
 use Rattle.prover_class.specs.Parts.{first_not_easy}
 use Rattle.prover_conditions.specs.Conditions.{condition_parts}
-use Rattle.bounds_prover.specs.declared.fault.ProveFault.TheVariants.{NotEasy}
+use Rattle.bounds_prover.specs.declared.fault.ProveFlaw.TheVariants.{NotEasy}
 use Rattle.bounds_prover.specs.Proving.{proved_container}
 use Rattle.view_container.specs.Laws.{IsListedSource}
 use Rattle.view_container.specs.Listing.{listing_text}

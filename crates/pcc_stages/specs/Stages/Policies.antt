@@ -2,33 +2,29 @@
 -- spells.
 use Rattle.std.specs.Prelude.{ℕ, List, Result, Ok, Err}
 use Rattle.formula_text.specs.Names.{text_flaw_name}
-use Rattle.formula_text.specs.declared.fault.TextFault.TheVariants as text
 use Rattle.policy_set.specs.Views.{PolicyView}
-use Rattle.policy_set.specs.declared.fault.PolicyFault.{PolicyFault}
-use Rattle.policy_set.specs.declared.fault.PolicyFault.TheVariants as fault
+use Rattle.policy_set.specs.declared.fault.PolicyFlaw.{PolicyFlaw}
+use Rattle.policy_set.specs.declared.fault.PolicyFlaw.TheVariants as flaw
 use Rattle.policy_set.specs.PolicyText.{policy_read}
 use Rattle.pcc_words.specs.Invocations.{PolicyWord, named, from_file}
 use Rattle.pcc_lines.specs.Fixed.{policy_too_long_line}
 use Rattle.pcc_lines.specs.Policies.{policy_lines_line, policy_length_line, policy_form_line}
 use Rattle.pcc_stages.specs.Exits.{Exit}
-use Rattle.pcc_stages.specs.Requests.{no_memory_exit}
 use Rattle.pcc_stages.specs.Stage.{Stage, stops, gives, reads, ◌>>=◌}
 use Rattle.pcc_stages.specs.Stages.Common.{refused, policy_named}
 use Rattle.pcc_stages.specs.declared.files.TheConstants.{MAX_POLICY_FILE}
 
 -- a file spells no policy, and why
-abbrev pub no_policy_spelled : PolicyFault → Exit
-no_policy_spelled (fault.Lines count) = refused (policy_lines_line count)
-no_policy_spelled (fault.Length line) = refused (policy_length_line line)
-no_policy_spelled (fault.Form line (text.At position flaw)) =
-    refused (policy_form_line line position (text_flaw_name flaw))
-no_policy_spelled (fault.Form line text.Memory) = no_memory_exit
-no_policy_spelled fault.Memory = no_memory_exit
+abbrev pub no_policy_spelled : PolicyFlaw → Exit
+no_policy_spelled (flaw.Lines count) = refused (policy_lines_line count)
+no_policy_spelled (flaw.Length line) = refused (policy_length_line line)
+no_policy_spelled (flaw.Form line position what) =
+    refused (policy_form_line line position (text_flaw_name what))
 
 -- what was read as a policy
-abbrev pub policy_spelled : Result PolicyView PolicyFault → Stage PolicyView
+abbrev pub policy_spelled : Result PolicyView PolicyFlaw → Stage PolicyView
 policy_spelled (Ok policy) = gives policy
-policy_spelled (Err fault) = stops (no_policy_spelled fault)
+policy_spelled (Err e) = stops (no_policy_spelled e)
 
 -- the policy that the bytes spell
 unfoldable pub policy_in : List ℕ → Stage PolicyView

@@ -1,7 +1,7 @@
 use Rattle.std.proofs.Common.{Err, sym, ◌∙◌, ap, subst}
 use Rattle.proof_container.specs.Views.{contents_of}
 use Rattle.pcc_gate.specs.Answers.{IsLemmaFrontAnswer}
-use Rattle.bounds_prover.specs.declared.fault.ProveFault.TheVariants.{Refused}
+use Rattle.bounds_prover.specs.declared.fault.ProveFlaw.TheVariants.{Refused}
 use Rattle.bounds_prover.specs.Proving.{IsMadeAnswer}
 use Rattle.bounds_prover.proofs.Making.{contents-made, refused-made}
 use Rattle.bounds_prover.proofs.proving.made.Goals as goal

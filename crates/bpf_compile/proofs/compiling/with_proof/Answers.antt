@@ -7,21 +7,7 @@ unreachable-requires c =
     let program = c.args.program.now in
     no-fault program _ (c.laws-2.ensures.plain program c.requires.program)
     (at-program program c.args.policy.now c.args.bytes.now c.requires.policy c.requires.bare _
-    (fault-given c.args.policy.now c.args.bytes.now c.prove.result c.in-Err-Refused.field-0 _ c.in-Err-Refused.is c.in-Err-Refused.field-0-is c.prove.ensures.exact))
-
-pub unreachable-requires-in-Err-NotEasy : goal.unreachable-requires-in-Err-NotEasy
-unreachable-requires-in-Err-NotEasy c =
-    let program = c.args.program.now in
-    no-fault program _ (c.laws-2.ensures.plain program c.requires.program)
-    (at-program program c.args.policy.now c.args.bytes.now c.requires.policy c.requires.bare _
-    (fault-given c.args.policy.now c.args.bytes.now c.prove.result c.in-Err-NotEasy.field-0 _ c.in-Err-NotEasy.is c.in-Err-NotEasy.field-0-is c.prove.ensures.exact))
-
-pub unreachable-requires-in-Err-TooBig : goal.unreachable-requires-in-Err-TooBig
-unreachable-requires-in-Err-TooBig c =
-    let program = c.args.program.now in
-    no-fault program _ (c.laws-2.ensures.plain program c.requires.program)
-    (at-program program c.args.policy.now c.args.bytes.now c.requires.policy c.requires.bare _
-    (fault-given c.args.policy.now c.args.bytes.now c.prove.result c.in-Err-TooBig.field-0 _ c.in-Err-TooBig.is c.in-Err-TooBig.field-0-is c.prove.ensures.exact))
+    (fault-given c.args.policy.now c.args.bytes.now c.prove.result c.in-Err-At.field-0 _ c.in-Err-At.is c.in-Err-At.field-0-is c.prove.ensures.exact))
 
 pub returns-in-Ok-clause-made : goal.returns-in-Ok-clause-made
 returns-in-Ok-clause-made c =

@@ -19,7 +19,7 @@ write-requires c =
     c.in_ok-container.ensures.writable c.view-shown.result c.view-shown.ensures.shows in
     let named : c.view-shown.result.head ≡ Number c.in_ok-number.number =
     c.view-shown.ensures.shows.head
-    ∙ head-numbered c.in_ok-container.container.head c.in_ok-number.number c.in_ok-number.ensures in
+    ∙ head-numbered c.in_ok-container.container.head c.in_ok-number.number (sym c.in_ok-number.ensures) in
     record {
       version = (omega arith, omega arith);
       head =
@@ -46,12 +46,12 @@ returns c =
     let fits : size_within (length c.args.bytes.now + GROWTH) ≡ Ok c.in_ok-size_within.field-0 =
     subst
     (λ (n : ℕ). size_within (length c.args.bytes.now + n) ≡ Ok c.in_ok-size_within.field-0)
-    c.from.ensures c.in_ok-size_within.ensures in
+    c.from.ensures (sym c.in_ok-size_within.ensures) in
     record {
       exact =
           upgraded-as c.args.bytes.now c.in_ok-write.field-0.items
           (contents_of c.in_ok-container.container) c.in_ok-number.number
           c.in_ok-size_within.field-0 c.in_ok-kind.kind c.in_ok-container.ensures.exact
-          c.in_ok-number.ensures c.in_ok-kind.ensures fits
+          (sym c.in_ok-number.ensures) (sym c.in_ok-kind.ensures) fits
           (c.in_ok-write.ensures.encodes.encoded ∙ ap encoding_of same);
     }
