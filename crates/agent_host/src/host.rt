@@ -1,4 +1,4 @@
-//! A host of several agents in one arena.
+//! A host of several agents, each in a part of its own.
 
 ghost use Rattle.std.specs.Prelude.{◌≡◌, ◌≢◌, ◌≤◌, ◌<◌, ◌%◌, ◌^◌, IfOk, Some, length, map};
 ghost use Rattle.std.specs.Prelude.{slice_get, All};
@@ -32,8 +32,7 @@ pub fn part_base(a: u32) -> u64
     ARENA + PART * u64::from(a)
 }
 
-/// Agents, numbered from 0, that share one arena, each with a part of its own. Contracts see the
-/// list of agents.
+/// Agents, numbered from 0, each with a part of memory of its own. Contracts see the list of agents.
 #[derive(Drop)]
 pub struct AgentHost {
     pub(crate) agents: Vec<Hosted>,

@@ -1,7 +1,8 @@
-//! Time-shared interpreter for several accepted programs in one arena, without access tests.
+//! Time-shared interpreter for several accepted programs, each in memory of its own, without access
+//! tests.
 //!
-//! Each agent has a part of the arena: 8,194 quadwords from `part_base` of its number on. An
-//! `AgentHost` holds neither access rights nor counts of steps. `load` brings one agent to the
+//! Each agent has a part: 8,194 quadwords, at addresses from `part_base` of its number on. No two
+//! parts have an address in common. An `AgentHost` holds neither access rights nor counts of steps. `load` brings one agent to the
 //! start state of its policy in its part, and the rights of that start then fit the agent. Under
 //! all rights that fit, `turn` is the run of the machine that tests each access; if the agent has a
 //! step bound, a turn with at least that budget ends with a return. Both leave every other agent

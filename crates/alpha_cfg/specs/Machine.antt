@@ -97,9 +97,9 @@ action_outcome actions.Return jump s = (steps.Returned, s)
 abbrev pub insn_outcome : Insn → State → Step × State
 insn_outcome insn s = action_outcome (action_of insn) (jump_of s.index insn) s
 
--- outside the code nothing is done
+-- what is done at an index; outside the code there is no instruction, so a step there is a bad end, as a blocked access is
 abbrev pub step_at : Option Insn → State → Step × State
-step_at None s = (steps.Returned, s)
+step_at None s = (steps.Blocked s.index Load 0, s)
 step_at (Some insn) s = insn_outcome insn s
 
 -- one step of the code

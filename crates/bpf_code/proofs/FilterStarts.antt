@@ -26,7 +26,7 @@ use Rattle.bpf_words.specs.Programs.{IsProgram}
 use Rattle.bpf_words.specs.Reading.{AreBytes}
 use Rattle.bpf_words.specs.Values.{bpf_value}
 use Rattle.bpf_code.specs.Blocks.{bpf_code, nonzero_flag}
-use Rattle.bpf_code.specs.Simulation.{ReturnsValue, StartsOn, address_behind, quadword_of}
+use Rattle.bpf_code.specs.Simulation.{ReturnsFlag, StartsOn, address_behind, quadword_of}
 use Rattle.bpf_code.proofs.Starting.{simulates, simulates-thousand}
 
 -- ---- where the packet stands
@@ -78,7 +78,7 @@ starts packet setup e = elim (cases_lt (length packet) 64) [
 
 pub returns-value : (program : List Bpf) (packet : List ℕ) (setup : StartView) → IsProgram program → AreBytes packet
     → start_of (built_in Filter) packet ≡ Some setup
-    → ReturnsValue program packet 1000 (start_state 65536 setup)
+    → ReturnsFlag program packet 1000 (start_state 65536 setup)
 returns-value program packet setup is bytes e = simulates-thousand program packet (start_state 65536 setup) is bytes (starts packet setup e)
 
 -- ---- what a packet comes to
@@ -126,7 +126,7 @@ unblocked program packet budget is bytes = elim (cases_lt (length packet) 64) [
   | inl less ↦ ap (λ o. is_blocked (result_from (bpf_code program) budget o)) (start-short packet less)
   | inr long ↦
       let s : State = start_state 65536 (filter_start 65536 packet) in
-      let answer : ReturnsValue program packet (budget + 20 * length program) s =
+      let answer : ReturnsFlag program packet (budget + 20 * length program) s =
       simulates program packet (budget + 20 * length program) s is bytes (starts-on packet long) (omega arith) in
       ap (λ o. is_blocked (result_from (bpf_code program) budget o)) (start-long packet long)
       ∙ elim (settled (bpf_code program) budget (20 * length program) s) [

@@ -7,7 +7,7 @@ use Rattle.bpf_words.specs.declared.insn.Bpf.{Bpf}
 use Rattle.bpf_words.specs.Programs.{IsProgram}
 use Rattle.bpf_code.specs.Blocks.{bpf_code}
 use Rattle.bpf_words.specs.Reading.{AreBytes}
-use Rattle.bpf_code.specs.Simulation.{address_behind, StartsOn, ReturnsValue, Simulates}
+use Rattle.bpf_code.specs.Simulation.{address_behind, StartsOn, ReturnsFlag, Simulates}
 use Rattle.bpf_code.proofs.Loads.{HasPacket, quad_address}
 use Rattle.bpf_code.proofs.Places.{length-blocks_from}
 use Rattle.bpf_code.proofs.Simulation.{program-answers}
@@ -28,12 +28,12 @@ at_front s = record { index = 0; regs = s.regs; memory = s.memory; rights = s.ri
 pub simulates : Simulates
 simulates program packet budget s is bytes starts enough =
     let same : at_front s ≡ s = ap (λ i. record { index = i; regs = s.regs; memory = s.memory; rights = s.rights }) (sym starts.index) in
-    subst (ReturnsValue program packet budget) same
+    subst (ReturnsFlag program packet budget) same
     (program-answers program is packet bytes s.memory s.rights (slice_index s.regs 16)
     (has-packet packet s starts) budget s.regs starts.count starts.a refl enough)
 
 pub simulates-thousand : (program : List Bpf) (packet : List ℕ) (s : State) → IsProgram program → AreBytes packet → StartsOn packet s
-    → ReturnsValue program packet 1000 s
+    → ReturnsFlag program packet 1000 s
 simulates-thousand program packet s is bytes starts = let few = is.few in simulates program packet 1000 s is bytes starts (omega (arith, few))
 
 pub length-bpf_code : (program : List Bpf) → length (bpf_code program) ≡ 20 * length program

@@ -33,10 +33,10 @@ pub record StartsOn (packet : List ℕ) (s : State) : Type 0 where
   pub readable : (d : ℕ) → 8 * d < LOADABLE → allowed s.rights.reads (address_behind (slice_index s.regs 16) (8 * d)) ≡ true
 
 -- Within so many steps the code of the program returns 0 where the program's value on the packet is 0, else 1.
-abbrev pub ReturnsValue : List Bpf → List ℕ → ℕ → State → Type 0
-ReturnsValue program packet budget s = (run_of (bpf_code program) budget s).0 ≡ Returned (nonzero_flag (bpf_value program packet))
+abbrev pub ReturnsFlag : List Bpf → List ℕ → ℕ → State → Type 0
+ReturnsFlag program packet budget s = (run_of (bpf_code program) budget s).0 ≡ Returned (nonzero_flag (bpf_value program packet))
 
 -- From each such state the code of a program returns so within BLOCK steps an instruction.
 abbrev pub Simulates : Type 0
 Simulates = (program : List Bpf) (packet : List ℕ) (budget : ℕ) (s : State) → IsProgram program → AreBytes packet → StartsOn packet s
-    → BLOCK * length program ≤ budget → ReturnsValue program packet budget s
+    → BLOCK * length program ≤ budget → ReturnsFlag program packet budget s

@@ -8,7 +8,7 @@ ghost use Rattle.bpf_words.specs.Programs.{IsProgram};
 ghost use Rattle.bpf_code.specs.declared.blocks.TheConstants.{BLOCK};
 ghost use Rattle.bpf_code.specs.Blocks.{bpf_code, nonzero_flag};
 ghost use Rattle.bpf_words.specs.Reading.{AreBytes};
-ghost use Rattle.bpf_code.specs.Simulation.{ReturnsValue, Simulates, StartsOn};
+ghost use Rattle.bpf_code.specs.Simulation.{ReturnsFlag, Simulates, StartsOn};
 ghost use Rattle.alpha_words.specs.declared.insn.Insn.{Insn};
 ghost use Rattle.alpha_cfg.specs.CodeBytes.{EncodesCode};
 ghost use Rattle.alpha_cfg.specs.CodeDecoding.{decoded_code};
@@ -35,7 +35,7 @@ pub fn laws()
     ensures length { (program : List Bpf) → length (bpf_code program) ≡ BLOCK * length program }
     ensures simulates { Simulates }
     ensures thousand { (program : List Bpf) (packet : List ℕ) (s : State) → IsProgram program
-        → AreBytes packet → StartsOn packet s → ReturnsValue program packet 1000 s }
+        → AreBytes packet → StartsOn packet s → ReturnsFlag program packet 1000 s }
 {}
 
 /// States the theorems about runs under `filter`. The start of `filter` on a packet is a state from
@@ -49,7 +49,7 @@ pub fn start_laws()
         → StartsOn packet (start_state ARENA setup) }
     ensures returns { (program : List Bpf) (packet : List ℕ) (setup : StartView)
         → IsProgram program → AreBytes packet → start_of (built_in Filter) packet ≡ Some setup
-        → ReturnsValue program packet 1000 (start_state ARENA setup) }
+        → ReturnsFlag program packet 1000 (start_state ARENA setup) }
     ensures outcome { (program : List Bpf) (packet : List ℕ) (budget : ℕ) → IsProgram program
         → AreBytes packet → LOADABLE ≤ length packet → BLOCK * length program ≤ budget
         → packet_result (built_in Filter) (bpf_code program) budget packet

@@ -1,4 +1,4 @@
--- What is made of a program's container is accepted, and gives the program's values.
+-- What is made of a program's container is accepted, and gives the flags of the program's values.
 use Rattle.std.proofs.Common.{◌≡◌, ℕ, suc, ◌≤◌, ◌^◌, zero, Bool, false, List, [], ◌∷◌, Some, None, Ok, refl, sym, ap, ◌∙◌, subst, arith}
 use Rattle.std.specs.Prelude.{All}
 use Rattle.alpha_words.specs.declared.insn.Insn.{Insn}
@@ -43,7 +43,7 @@ use Rattle.bpf_condition.specs.Invariants.{bpf_invariants}
 use Rattle.bpf_condition.specs.Condition.{annotated_bpf, bpf_flags, bpf_parts, HasClassProof}
 use Rattle.bpf_condition.proofs.Whole.{program-annotated, program-condition, program-proved}
 use Rattle.bpf_compile.specs.Contents.{AreCodeBytes, invariant_terms, bpf_contents}
-use Rattle.bpf_compile.specs.Compiled.{GivesValues, IsCompiled}
+use Rattle.bpf_compile.specs.Compiled.{GivesFlags, IsCompiled}
 use Rattle.prover_conditions.proofs.Heights.{form-low}
 use Rattle.prover_conditions.proofs.WholeProof.{IsSoundClass, uncounted}
 use Rattle.bounds_prover.proofs.SmallTerms.{checks-small, checks-entry}
@@ -180,15 +180,15 @@ module _ (sound : IsSoundClass) (program : List Bpf) (code : List ℕ) (is : IsP
       (bpf_code program) insns (bpf_flags program) marks
       made-passes h.passes).1
 
-  made-values : (contents : Contents) (insns : List Insn) (marks : List Bool)
-      → Accepts (built_in Filter) made contents insns marks → GivesValues program insns
-  made-values contents insns marks h packet budget fits long enough =
+  made-flags : (contents : Contents) (insns : List Insn) (marks : List Bool)
+      → Accepts (built_in Filter) made contents insns marks → GivesFlags program insns
+  made-flags contents insns marks h packet budget fits long enough =
       ap (λ l. packet_result (built_in Filter) l budget packet)
       (sym (code-one contents insns marks h))
       ∙ outcome program packet budget is fits long enough
 
   pub made-compiled : IsCompiled program made
-  made-compiled = record { accepted = made-accepted; values = made-values }
+  made-compiled = record { accepted = made-accepted; flags = made-flags }
 
 -- of each program some bytes are made, and they are all this
 pub container-compiles : IsSoundClass → (program : List Bpf) (code : List ℕ) → IsProgram program → AreCodeBytes program code

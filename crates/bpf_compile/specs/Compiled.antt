@@ -15,14 +15,14 @@ use Rattle.bpf_words.specs.Values.{bpf_value}
 use Rattle.bpf_code.specs.declared.blocks.TheConstants.{BLOCK}
 use Rattle.bpf_code.specs.Blocks.{nonzero_flag}
 
--- With twenty steps an instruction or more, each packet that isn't short comes to 0 where the program's value is 0, else to 1.
-abbrev pub GivesValues : List Bpf → List Insn → Type 0
-GivesValues program code = (packet : List ℕ) (budget : ℕ) → AreBytes packet → LOADABLE ≤ length packet → BLOCK * length program ≤ budget
+-- With twenty steps an instruction or more, each packet that isn't short comes to the flag of the program's value: 0 if the value is 0, else 1.
+abbrev pub GivesFlags : List Bpf → List Insn → Type 0
+GivesFlags program code = (packet : List ℕ) (budget : ℕ) → AreBytes packet → LOADABLE ≤ length packet → BLOCK * length program ≤ budget
     → packet_result (built_in Filter) code budget packet
     ≡ Ran (Returned (nonzero_flag (bpf_value program packet))) 0
 
--- The gate accepts the bytes, and whatever code it accepts them with gives the program's values.
+-- The gate accepts the bytes, and whatever code it accepts them with gives the flags of the program's values.
 pub record IsCompiled (program : List Bpf) (bytes : List ℕ) : Type 0 where
   pub accepted : IsAccepted (built_in Filter) bytes
-  pub values : (contents : Contents) (code : List Insn) (marks : List Bool)
-      → Accepts (built_in Filter) bytes contents code marks → GivesValues program code
+  pub flags : (contents : Contents) (code : List Insn) (marks : List Bool)
+      → Accepts (built_in Filter) bytes contents code marks → GivesFlags program code

@@ -30,9 +30,9 @@ use prover_class::class_laws;
 /// the program's code, are contents. Their encoding passes the checks of the gate before the proof,
 /// with the program's code and the flags of the words that have an invariant. What `prove` makes of
 /// that encoding is the encoding of the contents with the class's proof. That is accepted under
-/// `filter`, and whatever code it is accepted with gives the program's values. So `prove` makes of
-/// it a container that is all this; it also does so with the bytes that the assembler writes for
-/// the code.
+/// `filter`, and whatever code it is accepted with returns 0 if the program's value is 0, else
+/// 1. So `prove` makes of it a container that is all this; it also does so with the bytes that the
+/// assembler writes for the code.
 pub fn laws()
     ensures contents { (program : List Bpf) (code : List ℕ) → IsProgram program
         → AreCodeBytes program code → IsContents (bpf_contents program code) }

@@ -1,4 +1,4 @@
-//! Classic BPF: reads bytes as a program, and computes a program's value on a packet.
+//! Classic BPF: reads bytes as a program of instructions, and computes a program's value on a packet.
 //!
 //! Source: McCanne and Jacobson, The BSD Packet Filter, USENIX 1993, section 3; without its index
 //! register and scratch memory. `read_bpf` returns the program that bytes encode, or the first

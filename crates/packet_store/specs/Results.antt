@@ -3,6 +3,7 @@ use Rattle.std.specs.Prelude.{ℕ, ◌%◌, ◌^◌, List, Option, Some, None}
 use Rattle.alpha_words.specs.declared.insn.Insn.{Insn}
 use Rattle.alpha_cfg.specs.Machine.{run_of}
 use Rattle.policy_set.specs.Views.{PolicyView}
+use Rattle.reference_machine.specs.declared.layout.TheConstants.{ARENA}
 use Rattle.reference_machine.specs.Arena.{sum_of}
 use Rattle.reference_machine.specs.Starts.{StartView, start_state}
 use Rattle.packet_store.specs.declared.results.PacketResult.{PacketResult}
@@ -13,7 +14,7 @@ use Rattle.packet_store.specs.PolicyStarts.{start_of}
 unfoldable pub result_from : List Insn → ℕ → Option StartView → PacketResult
 result_from code budget None = Short
 result_from code budget (Some setup) =
-    let end = run_of code budget (start_state 65536 setup) in
+    let end = run_of code budget (start_state ARENA setup) in
     Ran end.0 (sum_of end.1.memory setup.at setup.region % 2 ^ 64)
 
 -- the run from the policy's start on a packet

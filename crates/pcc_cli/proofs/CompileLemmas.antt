@@ -23,7 +23,7 @@ use Rattle.pcc_stages.specs.Texts.{texts}
 use Rattle.pcc_stages.specs.Stages.Common.{refused}
 use Rattle.pcc_commands.specs.Stages.Proving.{container_proved}
 use Rattle.pcc_commands.specs.Stages.Compiling.{program_found, program_in, compiled_as, compiled_in}
-use Rattle.pcc_cli.specs.Headline.{ComesToValues, CompilesTo, IsToldOf}
+use Rattle.pcc_cli.specs.Headline.{ComesToFlags, CompilesTo, IsToldOf}
 
 -- what is read of bytes is a program, by the laws
 abbrev pub ReadsPrograms : Type 0
@@ -41,10 +41,10 @@ unfolding compiled_container
 programs-compile h = h
 
 -- twenty steps for each of at most forty instructions
-values-come : (program : List Bpf) → IsProgram program → (out : List ℕ) → IsCompiled program out
-    → (a : IsAccepted (built_in Filter) out) → ComesToValues program a.code
-values-come program is out c a packet held long =
-    let few = is.few in c.values a.contents a.code a.marks a.accepts packet 1000 held long (omega (arith, few))
+flags-come : (program : List Bpf) → IsProgram program → (out : List ℕ) → IsCompiled program out
+    → (a : IsAccepted (built_in Filter) out) → ComesToFlags program a.code
+flags-come program is out c a packet held long =
+    let few = is.few in c.flags a.contents a.code a.marks a.accepts packet 1000 held long (omega (arith, few))
 
 -- what a stage gives
 abbrev given_value : {A : Type 0} → A → Stage A → A
@@ -78,7 +78,7 @@ module _ (reads_programs : ReadsPrograms) (compiles_programs : CompilesPrograms)
           reads = is;
           compiled = made.1 ∙ ap Ok same;
           accepted = compiled.accepted;
-          values = λ a. values-come program program_is out compiled a;
+          flags = λ a. flags-come program program_is out compiled a;
         }
 
     told_by : (exit : Exit) → compiled_in bytes ≡ stops exit → (r : Result (List Bpf) BpfFlaw) → program_of bytes ≡ r

@@ -193,20 +193,20 @@ pub record UpgradesTo (bytes out : List ℕ) : Type 0 where
 abbrev pub bpf_steps : ℕ
 bpf_steps = 1000
 
--- each packet that isn't short comes to 0 where the program's value on it is 0, else to 1, by the machine that tests every access
-abbrev pub ComesToValues : List Bpf → List Insn → Type 0
-ComesToValues program code =
+-- each packet that isn't short comes to the flag of the program's value on it, 0 if the value is 0, else 1, by the machine that tests every access
+abbrev pub ComesToFlags : List Bpf → List Insn → Type 0
+ComesToFlags program code =
     (packet : List ℕ) → IsBytes packet → LOADABLE ≤ length packet
     → packet_result (built_in Filter) code bpf_steps packet
     ≡ Ran (Returned (nonzero_flag (bpf_value program packet))) 0
 
--- `bpf` makes of a program its container, which is accepted under `filter`, and whatever code that is, packets come to the program's values
+-- `bpf` makes of a program its container, which is accepted under `filter`, and whatever code that is, packets come to the flags of the program's values
 pub record CompilesTo (bytes out : List ℕ) : Type 0 where
   pub program : List Bpf
   pub reads : program_of bytes ≡ Ok program
   pub compiled : compiled_container program ≡ Ok out
   pub accepted : IsAccepted (built_in Filter) out
-  pub values : (a : IsAccepted (built_in Filter) out) → ComesToValues program a.code
+  pub flags : (a : IsAccepted (built_in Filter) out) → ComesToFlags program a.code
 
 -- what `bpf` prints of what its read of IN gave, where it compiles nothing: the bytes are no program, and the line is that of the first flaw
 abbrev pub IsToldOf : List ℕ → Given → Exit → Type 0

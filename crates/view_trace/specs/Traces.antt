@@ -7,6 +7,7 @@ use Rattle.alpha_cfg.specs.declared.outcome.Step.{Step}
 use Rattle.alpha_cfg.specs.declared.outcome.Step.TheVariants.{Moved}
 use Rattle.asm_print.specs.Printing.{insn_text}
 use Rattle.policy_set.specs.Views.{PolicyView}
+use Rattle.reference_machine.specs.declared.layout.TheConstants.{ARENA}
 use Rattle.reference_machine.specs.Starts.{StartView, start_state}
 use Rattle.packet_store.specs.PolicyStarts.{start_of}
 use Rattle.packet_store.specs.Results.{packet_result}
@@ -45,7 +46,7 @@ trace_text code (suc n) s =
 -- the lines of the run from a start, where there is one
 unfoldable pub trace_from : List Insn → ℕ → Option StartView → List ℕ
 trace_from code steps None = []
-trace_from code steps (Some setup) = trace_text code steps (start_state 65536 setup)
+trace_from code steps (Some setup) = trace_text code steps (start_state ARENA setup)
 
 -- the lines of the run from the policy's start on packet number k, and its result line
 abbrev pub packet_text : PolicyView → List Insn → ℕ → ℕ → List ℕ → List ℕ
