@@ -10,6 +10,8 @@ mod Ready
 pub mod Digests
 mod Witness
 mod LemmaWitness
+mod DigestWitness
+mod BoundWitness
 pub mod Kept
 pub mod Refusing
 pub mod Stages

@@ -1,5 +1,5 @@
 -- The worked container with a load, a store and a loop is accepted, clause by clause.
-use Rattle.std.proofs.Common.{◌≡◌, ℕ, zero, suc, ◌+◌, ◌≤◌, inl, inr, Bool, true, List, [], ◌∷◌, length}
+use Rattle.std.proofs.Common.{◌≡◌, ℕ, zero, suc, ◌+◌, ◌*◌, ◌/◌, ◌<◌, ◌≤◌, inl, inr, Bool, true, List, [], ◌∷◌, length}
 use Rattle.std.proofs.Common.{Some, None, Result, Ok, Err, refl, sym, ◌∙◌, subst, arith}
 use Rattle.std.specs.Prelude.{nat_le}
 use Rattle.std.proofs.lemmas.Bool.{leb-true}
@@ -7,6 +7,7 @@ use Rattle.std.proofs.lemmas.Option.{none-some}
 use Rattle.word_ops.specs.declared.Op.TheVariants.{Add}
 use Rattle.word_ops.specs.declared.Rel.TheVariants.{Eq}
 use Rattle.alpha_words.specs.declared.insn.Insn.{Insn}
+use Rattle.alpha_cfg.specs.declared.code.TheConstants.{MAX_WORDS}
 use Rattle.alpha_cfg.specs.declared.fault.CodeFlaw.{CodeFlaw}
 use Rattle.alpha_cfg.specs.declared.fault.CodeFault.TheVariants as fault
 use Rattle.alpha_cfg.specs.CodeBytes.{EncodesCode}
@@ -55,7 +56,7 @@ use Rattle.word_ops.specs.declared.Profile.TheVariants.{One}
 abbrev place : ℕ → ℕ → Exp
 place d n = EOp Add (EVar (14 + d)) (ELit n)
 
-abbrev first_read : ℕ → Form
+abbrev pub first_read : ℕ → Form
 first_read d = FRd (place d 0)
 
 abbrev second_read : ℕ → Form
@@ -72,10 +73,10 @@ abbrev first_set : ℕ → Form
 first_set d = FImp (first_zero d) FFalse
 
 -- what `tag` asks
-abbrev asked_rest : ℕ → Form
+abbrev pub asked_rest : ℕ → Form
 asked_rest d = FAnd (second_read d) (FImp (first_set d) (second_written d))
 
-abbrev asked : ℕ → Form
+abbrev pub asked : ℕ → Form
 asked d = FAnd (first_read d) (asked_rest d)
 
 -- the invariant of the store
@@ -130,7 +131,7 @@ loop_part = FImp (kept 0) (before_store 0)
 abbrev pub closed : Form → Form
 closed F = FAllm (alls 31 F)
 
-unfoldable whole_proof : Tree
+unfoldable pub whole_proof : Tree
 whole_proof =
     and_i (closed entry_part) (FAnd (closed loop_part) FTrue) (closing entry_part entry_proof)
     (and_i (closed loop_part) FTrue (closing loop_part loop_proof) tt_i)
@@ -231,24 +232,29 @@ decoded = refl
 same_code : (a b : List Insn) → told a ≡ told b → a ≡ b
 same_code a b e = cc
 
--- bytes that decode to the code are those of it, and it is code
-pub encoded_in : (p : Profile) → decoded_code p code_bytes ≡ told loop_code
-    → EncodesCode p code_bytes loop_code × IsCode loop_code
-encoded_in p decoded =
-    elim (code_decided p code_bytes refl (omega arith) (omega arith)) [
+-- bytes that decode to code are those of it, and it is code
+pub encoded_as : (p : Profile) (bytes : List ℕ) (insns : List Insn)
+    → 4 * (length bytes / 4) ≡ length bytes → 0 < length bytes → length bytes ≤ 4 * MAX_WORDS
+    → decoded_code p bytes ≡ told insns → EncodesCode p bytes insns × IsCode insns
+encoded_as p bytes insns whole some short decoded =
+    elim (code_decided p bytes whole some short) [
       | inl e ↦
-          let same : e.insns ≡ loop_code =
-          same_code e.insns loop_code
-          (decoded_code-ok p code_bytes e.insns e.encoded e.code ∙ decoded) in
-          (subst (EncodesCode p code_bytes) same e.encoded, subst IsCode same e.code)
+          let same : e.insns ≡ insns =
+          same_code e.insns insns (decoded_code-ok p bytes e.insns e.encoded e.code ∙ decoded) in
+          (subst (EncodesCode p bytes) same e.encoded, subst IsCode same e.code)
       | inr f ↦
           absurd
           (differ f.which
-          (IsDecoded-IsCodeAnswer p code_bytes (Err (fault.At f.which)) f.is ∙ decoded))
+          (IsDecoded-IsCodeAnswer p bytes (Err (fault.At f.which)) f.is ∙ decoded))
     ]
   where
-    differ : (f : CodeFlaw) → flawed f ≡ told loop_code → ⊥
+    differ : (f : CodeFlaw) → flawed f ≡ told insns → ⊥
     differ f e = cc
+
+-- the loop's in any profile that decodes them to it
+pub encoded_in : (p : Profile) → decoded_code p code_bytes ≡ told loop_code
+    → EncodesCode p code_bytes loop_code × IsCode loop_code
+encoded_in p decoded = encoded_as p code_bytes loop_code refl (omega arith) (omega arith) decoded
 
 encoded : EncodesCode One code_bytes loop_code × IsCode loop_code
 encoded = encoded_in One decoded
@@ -277,7 +283,7 @@ unfolding whole_proof constant_types the_rules
 checked = refl
 
 -- with no lemmas the signature is the same
-none_added : (s : WordSignature) → with_lemmas (declared s) [] ≡ declared s
+pub none_added : (s : WordSignature) → with_lemmas (declared s) [] ≡ declared s
 none_added s = λ i c. each c i
   where
     each : (c : Const) → with_lemmas (declared s) [] c ≡ declared s c

@@ -1,5 +1,6 @@
--- That acceptance isn't empty: containers whose code loads, stores and loops are accepted, one
--- without lemmas and one with.
+-- That acceptance isn't empty in any version: containers whose code loads, stores and loops are
+-- accepted in version 1, in version 2, and with a lemma in version 4; and in version 3 one whose
+-- code loads and returns within its bound.
 use Rattle.std.specs.Prelude.{◌≡◌, ℕ, false, Bool, List, [], ◌∷◌, Some, pos, negsuc}
 use Rattle.alpha_words.specs.declared.insn.Cond.TheVariants.{Zero}
 use Rattle.alpha_words.specs.declared.insn.Insn.{Insn}
@@ -23,7 +24,29 @@ pub record LoopIsAccepted : Type 0 where
   pub marks : List Bool
   pub accepts : Accepts (built_in Tag) bytes contents loop_code marks
 
--- some bytes hold it with one lemma, which the proof cites, and are accepted under `tag`
+-- some bytes hold it in version 2, in which the policy's digest stands in place of its number, and
+-- are accepted under `tag`
+pub record DigestIsAccepted : Type 0 where
+  pub bytes : List ℕ
+  pub contents : Contents
+  pub marks : List Bool
+  pub version : contents.version ≡ 2
+  pub accepts : Accepts (built_in Tag) bytes contents loop_code marks
+
+-- ldq r0, 0(r16);  ret
+abbrev pub load_code : List Insn
+load_code = Ldq 0 16 (pos 0) ∷ Ret ∷ []
+
+-- some bytes hold this code with a bound of two steps, as many as it makes, and are accepted under
+-- `tag`
+pub record BoundIsAccepted : Type 0 where
+  pub bytes : List ℕ
+  pub contents : Contents
+  pub marks : List Bool
+  pub bound : contents.bound ≡ Some 2
+  pub accepts : Accepts (built_in Tag) bytes contents load_code marks
+
+-- some bytes hold the loop with one lemma, which the proof cites, and are accepted under `tag`
 pub record LemmaIsAccepted : Type 0 where
   pub bytes : List ℕ
   pub contents : Contents

@@ -4,7 +4,8 @@ ghost use Rattle.pcc_gate.specs.Safe.{AcceptedSafe, AcceptedReturns};
 ghost use Rattle.pcc_gate.specs.Laws.{AcceptedFirst, PassedFirst, PassedOne};
 ghost use Rattle.pcc_gate.specs.Laws.{RefusedFirst, RefusedBefore, RefusedLemmas, PassedUpTo};
 ghost use Rattle.pcc_gate.specs.WrittenOut.{AcceptedWrittenOut};
-ghost use Rattle.pcc_gate.specs.Witness.{LoopIsAccepted, LemmaIsAccepted};
+ghost use Rattle.pcc_gate.specs.Witness.{LoopIsAccepted, DigestIsAccepted};
+ghost use Rattle.pcc_gate.specs.Witness.{BoundIsAccepted, LemmaIsAccepted};
 
 use lf_truth::truth_laws;
 
@@ -14,8 +15,9 @@ use lf_truth::truth_laws;
 /// the checks before it pass and its own fails, with its value (`specs/Refusals`). That holds also
 /// among the checks before the proof alone, and among these and those of the lemmas alone. Bytes
 /// hold at most one container. The code of accepted bytes is safe for the policy, and if its steps
-/// are bounded, it returns within the bound. Some bytes are accepted whose code loads, stores and
-/// loops, without lemmas, and with one that the proof cites.
+/// are bounded, it returns within the bound. In each version some bytes are accepted: in versions 1
+/// and 2 code that loads, stores and loops; in version 3 code that loads and returns in two steps,
+/// with a bound of two; in version 4 the loop with a lemma that the proof cites.
 pub fn laws()
     ensures accepted { AcceptedFirst }
     ensures passed { PassedFirst }
@@ -28,6 +30,8 @@ pub fn laws()
     ensures safe { AcceptedSafe }
     ensures returns { AcceptedReturns }
     ensures some { LoopIsAccepted }
+    ensures with_digest { DigestIsAccepted }
+    ensures bounded { BoundIsAccepted }
     ensures with_lemma { LemmaIsAccepted }
 {
     truth_laws();

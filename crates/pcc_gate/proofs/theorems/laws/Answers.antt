@@ -1,6 +1,8 @@
 use Rattle.pcc_gate.proofs.Safe.{accepted-safe, accepted-returns, all-sound}
 use Rattle.pcc_gate.proofs.FirstFront.{passed-none, none-passed, passed-one, before-is, passes-cut, cut-passes}
 use Rattle.pcc_gate.proofs.Witness.{loop_is_accepted}
+use Rattle.pcc_gate.proofs.DigestWitness.{digest_is_accepted}
+use Rattle.pcc_gate.proofs.BoundWitness.{bound_is_accepted}
 use Rattle.pcc_gate.proofs.LemmaWitness.{lemma_is_accepted}
 use Rattle.pcc_gate.proofs.First.{accepted-none, none-accepted, refusal-is}
 use Rattle.pcc_gate.proofs.Lemmas.{lemma-is}
@@ -43,6 +45,12 @@ returns-clause-up_to c policy bytes k code marks =
 
 pub returns-clause-some : goal.returns-clause-some
 returns-clause-some c = loop_is_accepted
+
+pub returns-clause-with_digest : goal.returns-clause-with_digest
+returns-clause-with_digest c = digest_is_accepted
+
+pub returns-clause-bounded : goal.returns-clause-bounded
+returns-clause-bounded c = bound_is_accepted
 
 pub returns-clause-with_lemma : goal.returns-clause-with_lemma
 returns-clause-with_lemma c = lemma_is_accepted
