@@ -23,7 +23,7 @@ use Rattle.alpha_words.proofs.EachMemoryOp.{each_memory_op_same, memory_op_at-me
 use Rattle.alpha_words.specs.Opcodes.{conditions, cond_opcode_of, cond_at}
 use Rattle.alpha_words.specs.MemoryOps.{memory_opcode, memory_kind, has_memory_op, memory_op_at, memory_op_of}
 use Rattle.alpha_words.specs.Formats.{format_of, memory_insn, insn_of}
-use Rattle.alpha_words.specs.Lawful.{fault_of, any_fault, missing_fault, missing_format, format_fault, register_fault, kept_fault, FitsFormat, HasFormat}
+use Rattle.alpha_words.specs.Lawful.{fault_of, operand_fault, missing_fault, missing_format, format_fault, register_fault, kept_fault, FitsFormat, HasFormat}
 use Rattle.alpha_words.specs.Encoding.{is_kept, bits_of, HasBits, rhs_bits, IsRhs, memory_word, operate_word, HasFormatFields, HasFields, IsFirstRegister, EncodesFormat, has_format, has_insn, EncodesAny, Encodes}
 use Rattle.alpha_words.specs.Decoding.{signed_of, reg_at, unless_kept, unless_refused, decoded_memory, rhs_at, has_reserved, decoded_operate, decoded_branch, is_return, decoded_other, decoded_by, decoded}
 use Rattle.alpha_words.proofs.Fields.{HasBits-signed_of, bits_of-signed_of, signed_of-bits_of, bits_of-below}
@@ -313,17 +313,17 @@ format-Encodes w (F.Branch cond ra disp) h = (refl, h.1)
 format-Encodes w (F.Br disp) h = (refl, h.0)
 format-Encodes w F.Ret h = (refl, tt)
 
-any-Encodes : (w : ℕ) (i : Insn) → EncodesAny w i → (any_fault i ≡ None) × HasFormat i
+any-Encodes : (w : ℕ) (i : Insn) → EncodesAny w i → (operand_fault i ≡ None) × HasFormat i
 any-Encodes w i h = format-Encodes w (format_of i) h
 
 pub Lawful-Encodes : (p : Profile) (w : ℕ) (i : Insn) → Encodes p w i → (fault_of p i ≡ None) × HasFormat i
-Lawful-Encodes p w i h = let a = any-Encodes w i h.1 in (ap (λ b. cond b (any_fault i) (Some (missing_fault i))) h.0 ∙ a.0, a.1)
+Lawful-Encodes p w i h = let a = any-Encodes w i h.1 in (ap (λ b. cond b (operand_fault i) (Some (missing_fault i))) h.0 ∙ a.0, a.1)
 
 -- where the profile refuses nothing it has the instruction, and refuses nothing of each profile
-pub has-unrefused : (p : Profile) (i : Insn) → fault_of p i ≡ None → (has_insn p i ≡ true) × (any_fault i ≡ None)
+pub has-unrefused : (p : Profile) (i : Insn) → fault_of p i ≡ None → (has_insn p i ≡ true) × (operand_fault i ≡ None)
 has-unrefused p i h = go (has_insn p i) h
   where
-    go : (b : Bool) → cond b (any_fault i) (Some (missing_fault i)) ≡ None → (b ≡ true) × (any_fault i ≡ None)
+    go : (b : Bool) → cond b (operand_fault i) (Some (missing_fault i)) ≡ None → (b ≡ true) × (operand_fault i ≡ None)
     go true e = (refl, e)
     go false e = cc
 

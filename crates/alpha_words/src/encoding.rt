@@ -3,7 +3,7 @@
 ghost use Rattle.std.specs.Prelude.{◌≡◌, ◌+◌, ◌*◌, ◌^◌, ◌≤◌, ◌<◌, MatchResult, Some, None, Ok};
 ghost use Rattle.alpha_words.specs.Encoding as encoding;
 ghost use Rattle.alpha_words.specs.Decoding.{decoded};
-ghost use Rattle.alpha_words.specs.Lawful.{fault_of, any_fault, missing_fault, kept_fault};
+ghost use Rattle.alpha_words.specs.Lawful.{fault_of, operand_fault, missing_fault, kept_fault};
 ghost use Rattle.alpha_words.specs.Lawful.{register_fault};
 ghost use Rattle.alpha_words.specs.Lawful.{HasFormat, target_of};
 
@@ -50,7 +50,8 @@ fn lawful_register(kind: MemoryKind, reg: Reg) -> Result<(), BadWord>
 
 /// Checks what both profiles refuse: a reserved register, and a load into register 31.
 fn any_lawful(insn: Insn) -> Result<(), BadWord>
-    ensures { MatchResult result (λ _. any_fault insn ≡ None) (λ e. any_fault insn ≡ Some e) }
+    ensures { MatchResult result (λ _. operand_fault insn ≡ None)
+        (λ e. operand_fault insn ≡ Some e) }
 {
     match insn.format() {
         Format::Memory { op, ra, .. } => lawful_register(memory_kind(op), ra),
@@ -136,7 +137,7 @@ fn operate(op: Op, ra: Reg, rhs: Rhs, rc: Reg) -> u32
 
 /// Returns the word of a permitted instruction.
 fn write(insn: Insn) -> u32
-    requires lawful { any_fault insn ≡ None }
+    requires lawful { operand_fault insn ≡ None }
     requires reaches { HasFormat insn }
     ensures encodes { encoding.EncodesAny result insn }
     ensures hint { insn ≡ Insn.Ret → result ≡ 0x6BFA8001 }

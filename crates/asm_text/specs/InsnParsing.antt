@@ -178,7 +178,8 @@ parsed_branch j ts = do
   ra ← register_at f.0
   Ok (BranchTo j ra f.1)
 
--- `br`, by its first lexeme and what is behind it
+-- What the first lexeme after `br` and the tokens after that give: a branch to the label, which is this lexeme or
+-- follows $31 and a comma, or the first flaw.
 abbrev pub br_by : List ℕ → List (Token Punct) → Result SourceInsn LineFlaw
 br_by x [] = last_label (x, []) >>= λ label. Ok (BrTo label)
 br_by x (Lexeme w ∷ ts) = Err L.Operand
@@ -187,7 +188,8 @@ br_by x (Mark m ∷ ts) = do
   r ← fixed_register 31 x
   Ok (BrTo label)
 
--- `br`
+-- What the tokens after `br` give, or the first flaw: `loop` and `$31,loop` give a branch to the label loop; `$5,loop`
+-- doesn't, since `br` may not save a return address.
 unfoldable pub parsed_br : List (Token Punct) → Result SourceInsn LineFlaw
 parsed_br ts = next_lexeme ts >>= λ x. br_by x.0 x.1
 

@@ -1,5 +1,5 @@
 -- Access to memory, by hypotheses that give it.
-use Rattle.std.specs.Prelude.{ℕ, zero, suc, Bool, true, false, ◌&&◌, not, if◌then◌else◌, ◌==◌, Option, Some, None, List, [], ◌∷◌}
+use Rattle.std.specs.Prelude.{ℕ, zero, suc, Bool, true, false, ◌||◌, if◌then◌else◌, ◌==◌, Option, Some, None, List, [], ◌∷◌}
 use Rattle.std.specs.Option.{option_map}
 use Rattle.term_table.specs.Tree.{Tree}
 use Rattle.term_table.specs.Subst.{bind}
@@ -37,20 +37,20 @@ down (FAnd A B) (Left ∷ l) p = down A l (and_l A B p)
 down (FAnd A B) (Right ∷ l) p = down B l (and_r A B p)
 down A l p = p
 
--- whether variable 0 stands in the expression, c binders being nearer
+-- whether variable c occurs in the expression, or in the memory: 0 and 1 occur in (add #0 (sll #1 3))
 abbrev mutual
   pub has_var : ℕ → Exp → Bool
   has_var c (EReg r) = false
   has_var c ELeft = false
   has_var c (EVar n) = n == c
   has_var c (ELit w) = false
-  has_var c (EOp o a b) = not (not (has_var c a) && not (has_var c b))
-  has_var c (ESel m a) = not (not (has_var_mem c m) && not (has_var c a))
+  has_var c (EOp o a b) = has_var c a || has_var c b
+  has_var c (ESel m a) = has_var_mem c m || has_var c a
 
   pub has_var_mem : ℕ → MemExp → Bool
   has_var_mem c MMem = false
   has_var_mem c (MVar n) = n == c
-  has_var_mem c (MUpd m a v) = not (not (has_var_mem c m) && not (not (not (has_var c a) && not (has_var c v))))
+  has_var_mem c (MUpd m a v) = has_var_mem c m || has_var c a || has_var c v
 
 -- the summands of a normal form, without its literal
 abbrev pub summands : Exp → List Exp
@@ -90,7 +90,9 @@ eighth (ELit w) = Some (ELit (word_of Srl w 3))
 eighth (EOp Sll t (ELit (suc (suc (suc zero))))) = Some t
 eighth e = None
 
--- what is put for the variable of z, which is 0 there: z is (add b x) or (add b (sll x 3)), with b without x
+-- The expression that makes z equal to a if it is put for variable 0: a without the summands of b if z is
+-- (add b #0), an eighth of that if z is (add b (sll #0 3)). None if there is no such expression, if variable 0
+-- occurs in b, or if z has another form.
 abbrev pub instance_of : ℕ → Exp → Exp → Option Exp
 instance_of out a (EOp Add b (EVar zero)) = if has_var 0 b then None else rest_of (normal_form out a).now (normal_form out (subst_var_exp b 0 (PExp (ELit 0)))).now
 instance_of out a (EOp Add b (EOp Sll (EVar zero) (ELit (suc (suc (suc zero)))))) = if has_var 0 b then None else bind (rest_of (normal_form out a).now (normal_form out (subst_var_exp b 0 (PExp (ELit 0)))).now) eighth
@@ -108,28 +110,36 @@ access_move out k z a h = move (access_form k (EVar 0)) z a (equal_proof z a (no
 abbrev pub moved : ℕ → Access → Exp → Exp → Tree → Option Tree
 moved out k a z h = if same_address out z a then Some (access_move out k z a h) else None
 
--- what an address of a conclusion opens: itself, what is put for the variable, and the proof of the premise
+-- an address that a hypothesis offers and that is the address sought, what was put for the variable to make it so,
+-- and a proof of the premise
 pub record Opened : Type 0 where
   pub address : Exp
   pub put : Exp
   pub proof : Tree
 
--- z, for which o was put, by p
+-- the opening with these parts
 abbrev pub opening_of : Exp → Exp → Tree → Opened
 opening_of z o p = record { address = z; put = o; proof = p }
 
--- z, for which o was put, where its normal form is a's and P is proved
+-- The opening of the address that is offered, with o put for its variable. None if the address sought has another
+-- normal form, or if the premise has no proof.
 abbrev pub opened_by : Prover → ℕ → Hyps → Exp → Form → Exp → Exp → Option Opened
-opened_by prove out Γ a P z o = if same_address out z a then option_map (opening_of z o) (prove out Γ P) else None
+opened_by prove outside Γ sought premise offered o =
+    if same_address outside offered sought then option_map (opening_of offered o) (prove outside Γ premise) else None
 
--- the same where o is still to be put for variable 0
+-- the opening after o is put for variable 0 of the premise and of the address that is offered
 abbrev pub opened_with : Prover → ℕ → Hyps → Exp → Form → Exp → Exp → Option Opened
-opened_with prove out Γ a P z o = opened_by prove out Γ a (subst_var P 0 (PExp o)) (subst_var_exp z 0 (PExp o)) o
+opened_with prove outside Γ sought premise offered o =
+    opened_by prove outside Γ sought (subst_var premise 0 (PExp o)) (subst_var_exp offered 0 (PExp o)) o
 
--- a try at z, an address of Q, for access to a: from (imp P Q), or where quantified from an instance of (all (imp P Q))
+-- The opening of an address that a hypothesis (imp premise Q) offers in Q, or if the flag is true a hypothesis
+-- (all (imp premise Q)). For example (all i (imp (ult i r17) (rd (add r16 i)))) offers (add r16 i): if (add r16 r3)
+-- is sought, r3 is put for i, and (ult r3 r17) has to have a proof.
 abbrev pub opened_at : Prover → Bool → ℕ → Hyps → Exp → Form → Exp → Option Opened
-opened_at prove true out Γ a P z = bind (instance_of out a z) (opened_with prove out Γ a P z)
-opened_at prove false out Γ a P z = opened_by prove out Γ a P z z
+opened_at prove true outside Γ sought premise offered =
+    bind (instance_of outside sought offered) (opened_with prove outside Γ sought premise offered)
+opened_at prove false outside Γ sought premise offered =
+    opened_by prove outside Γ sought premise offered offered
 
 -- the way one conjunction longer
 abbrev pub from_side : Side → Option (List Side × Opened) → Option (List Side × Opened)

@@ -7,6 +7,7 @@ use Rattle.word_ops.specs.declared.Op.TheVariants.{Add, Band, Sll}
 use Rattle.word_ops.specs.declared.Rel.TheVariants.{Eq, Ult, Ule}
 use Rattle.formula_tree.specs.Formulas.{Exp, EVar, ELit, EOp, Form, FTrue, FFalse, FRel, FRd, FWr, FAnd, FOr, FImp, FAll, FAllm, shift_form}
 use Rattle.lf_terms.specs.ProofTerms.{tt_i, ff_e, and_i, or_l, or_r, imp_i, imp_e, all_i, allm_i, word_rule, eq_refl, move, up, calc, fact}
+use Rattle.lf_terms.specs.declared.numbers.TheConstants.{ADD_AL, AND_ASSOC, AND_ZERO, LE_LT, LT_LE, SLL_AL, ULE_TRANS, ULT_ULE}
 use Rattle.prover_class.specs.Hypotheses.{Hyps, find_hyp, raised_hyps, split_hyps, with_new}
 use Rattle.prover_class.specs.Bounds.{WordBound, upper_bound, lower_bound}
 use Rattle.prover_class.specs.NormalForms.{normal_form, held_of_words, equal_forms}
@@ -71,16 +72,18 @@ abbrev pub masked : Exp → ℕ → Tree
 masked a w =
     let e = EOp Band (EOp Band a (ELit w)) (ELit 7) in
     let inner = EOp Band (ELit w) (ELit 7) in
-    let first = move (FRel Eq (up e) (EVar 0)) e (EOp Band a inner) (word_rule 52 (a ∷ ELit w ∷ ELit 7 ∷ []) []) (eq_refl e) in
+    let first =
+        move (FRel Eq (up e) (EVar 0)) e (EOp Band a inner) (word_rule AND_ASSOC (a ∷ ELit w ∷ ELit 7 ∷ []) []) (eq_refl e) in
     let second = move (FRel Eq (up e) (EOp Band (up a) (EVar 0))) inner (ELit 0) (calc Band w 7) first in
-    move (FRel Eq (up e) (EVar 0)) (EOp Band a (ELit 0)) (ELit 0) (word_rule 53 (a ∷ []) []) second
+    move (FRel Eq (up e) (EVar 0)) (EOp Band a (ELit 0)) (ELit 0) (word_rule AND_ZERO (a ∷ []) []) second
 
 -- (eq (band e 7) 0)
 abbrev pub alignment_proof : Hyps → Exp → Option Tree
 alignment_proof Γ (ELit w) = if w % 8 == 0 then Some (calc Band w 7) else None
 alignment_proof Γ (EOp Add a b) =
-    bind (first_of (find_hyp Γ (aligned_form a)) (alignment_proof Γ a)) (λ p. option_map (λ q. word_rule 57 (a ∷ b ∷ []) (p ∷ q ∷ [])) (first_of (find_hyp Γ (aligned_form b)) (alignment_proof Γ b)))
-alignment_proof Γ (EOp Sll a (ELit (suc (suc (suc zero))))) = Some (word_rule 58 (a ∷ []) [])
+    bind (first_of (find_hyp Γ (aligned_form a)) (alignment_proof Γ a))
+    (λ p. option_map (λ q. word_rule ADD_AL (a ∷ b ∷ []) (p ∷ q ∷ [])) (first_of (find_hyp Γ (aligned_form b)) (alignment_proof Γ b)))
+alignment_proof Γ (EOp Sll a (ELit (suc (suc (suc zero))))) = Some (word_rule SLL_AL (a ∷ []) [])
 alignment_proof Γ (EOp Band a (ELit w)) = if w % 8 == 0 then Some (masked a w) else None
 alignment_proof Γ e = None
 
@@ -89,24 +92,26 @@ abbrev pub by_aligned : Hyps → Form → Option Tree
 by_aligned Γ (FRel Eq (EOp Band e (ELit (suc (suc (suc (suc (suc (suc (suc zero))))))))) (ELit zero)) = alignment_proof Γ e
 by_aligned Γ A = None
 
--- (ule a b) by a's upper bound v and b's lower bound w, where v is at most w
+-- (ule a b) by a's upper bound v and b's lower bound w, if v is at most w
 abbrev pub ule_by : Exp → Exp → WordBound → WordBound → Option Tree
 ule_by a b v w =
     if nat_le v.value w.value then
-    Some (word_rule 64 (a ∷ ELit v.value ∷ b ∷ []) (v.proof ∷ word_rule 64 (ELit v.value ∷ ELit w.value ∷ b ∷ []) (fact Ule v.value w.value ∷ w.proof ∷ []) ∷ []))
+    Some (word_rule ULE_TRANS (a ∷ ELit v.value ∷ b ∷ [])
+    (v.proof ∷ word_rule ULE_TRANS (ELit v.value ∷ ELit w.value ∷ b ∷ []) (fact Ule v.value w.value ∷ w.proof ∷ []) ∷ []))
     else None
 
--- (ult a b) by the same bounds, where v is below w
+-- (ult a b) by the same bounds, if v is below w
 abbrev pub ult_by : Exp → Exp → WordBound → WordBound → Option Tree
 ult_by a b v w =
     if nat_lt v.value w.value then
-    Some (word_rule 66 (a ∷ ELit w.value ∷ b ∷ []) (word_rule 67 (a ∷ ELit v.value ∷ ELit w.value ∷ []) (v.proof ∷ fact Ult v.value w.value ∷ []) ∷ w.proof ∷ []))
+    Some (word_rule LT_LE (a ∷ ELit w.value ∷ b ∷ [])
+    (word_rule LE_LT (a ∷ ELit v.value ∷ ELit w.value ∷ []) (v.proof ∷ fact Ult v.value w.value ∷ []) ∷ w.proof ∷ []))
     else None
 
 -- a comparison by bounds; (ule a b) first by a hypothesis (ult a b)
 abbrev pub by_bounds : Bool → Hyps → Form → Option Tree
 by_bounds counted Γ (FRel Ule a b) =
-    first_of (option_map (λ h. word_rule 65 (a ∷ b ∷ []) (h ∷ [])) (find_hyp Γ (FRel Ult a b)))
+    first_of (option_map (λ h. word_rule ULT_ULE (a ∷ b ∷ []) (h ∷ [])) (find_hyp Γ (FRel Ult a b)))
     (ule_by a b (upper_bound Γ a) (lower_bound counted Γ b))
 by_bounds counted Γ (FRel Ult a b) = ult_by a b (upper_bound Γ a) (lower_bound counted Γ b)
 by_bounds counted Γ A = None

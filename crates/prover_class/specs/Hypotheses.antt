@@ -9,6 +9,7 @@ use Rattle.word_ops.specs.declared.Rel.TheVariants.{Eq, Ult, Ule, Slt, Sle}
 use Rattle.formula_tree.specs.Formulas.{Exp, ELit, EOp, Form, FFalse, FRel, FAnd, FImp, shift_form}
 use Rattle.lf_terms.specs.Encoding.{form_encoding, exp_encoding}
 use Rattle.lf_terms.specs.ProofTerms.{and_l, and_r, word_rule}
+use Rattle.lf_terms.specs.declared.numbers.TheConstants.{CMP_NO, CMP_YES, NOT_LT}
 
 -- hypotheses, each with its proof
 abbrev pub Hyps : Type 0
@@ -46,31 +47,37 @@ abbrev pub comparison : Bool → Rel → Exp → Exp → Form
 comparison true p a b = FRel p a b
 comparison false p a b = FImp (FRel p a b) FFalse
 
--- the first of the rules for a test that is 0, or isn't
+-- The first of the five rules from what a compare returns to its relation: `cmp_no` if it returns 0, `cmp_yes` if
+-- it doesn't. The place that `compared` gives is added to it: 3 for cmpult.
 abbrev pub test_rule : Bool → ℕ
-test_rule true = 78
-test_rule false = 73
+test_rule true = CMP_NO
+test_rule false = CMP_YES
 
 -- (ule b a) by h, that a isn't less than b
 abbrev pub reversed_hyps : Exp → Exp → Tree → Hyps
-reversed_hyps a b h = (FRel Ule b a, word_rule 70 (a ∷ b ∷ []) (h ∷ [])) ∷ []
+reversed_hyps a b h = (FRel Ule b a, word_rule NOT_LT (a ∷ b ∷ []) (h ∷ [])) ∷ []
 
--- the consequences of a comparison by h, beside itself; more are those of its first expression where that is 0, or isn't
+-- What follows from a comparison by h, without itself: from (eq a 0) or its negation what `of_first` says if a is 0
+-- or isn't, from (not (ult a b)) that (ule b a), else nothing.
 abbrev pub other_hyps : (Bool → Tree → Hyps) → Bool → Rel → Exp → Exp → Tree → Hyps
-other_hyps more holds Eq a (ELit zero) h = more holds h
-other_hyps more false Ult a b h = reversed_hyps a b h
-other_hyps more holds p a b h = []
+other_hyps of_first holds Eq a (ELit zero) h = of_first holds h
+other_hyps of_first false Ult a b h = reversed_hyps a b h
+other_hyps of_first holds p a b h = []
 
--- the consequences of a comparison
+-- A comparison that holds or doesn't, with its proof h, and what follows from it: from h of (not (ult r1 r2)) this
+-- formula and (ule r2 r1).
 abbrev pub comparison_hyps : (Bool → Tree → Hyps) → Bool → Rel → Exp → Exp → Tree → Hyps
-comparison_hyps more holds p a b h = (comparison holds p a b, h) ∷ other_hyps more holds p a b h
+comparison_hyps of_first holds p a b h = (comparison holds p a b, h) ∷ other_hyps of_first holds p a b h
 
--- the consequences of a test that is 0, or isn't: its relation doesn't hold, or does
+-- What follows if a compare of a and b returns 0, or doesn't, by h: that its relation doesn't hold, or holds, and
+-- what follows from that. Nothing if the operator is no compare.
 abbrev pub test_hyps : (Bool → Tree → Hyps) → Bool → Option (Rel × ℕ) → Exp → Exp → Tree → Hyps
-test_hyps more is_zero None a b h = []
-test_hyps more is_zero (Some p) a b h = comparison_hyps more (not is_zero) p.0 a b (word_rule (test_rule is_zero + p.1) (a ∷ b ∷ []) (h ∷ []))
+test_hyps of_first is_zero None a b h = []
+test_hyps of_first is_zero (Some p) a b h =
+    comparison_hyps of_first (not is_zero) p.0 a b (word_rule (test_rule is_zero + p.1) (a ∷ b ∷ []) (h ∷ []))
 
--- the consequences of an expression that is 0, or isn't
+-- what follows if an expression is 0, or isn't, by h: from h of (eq (cmpult r1 r2) 0) that (not (ult r1 r2)) and
+-- (ule r2 r1)
 abbrev pub tested_hyps : Exp → Bool → Tree → Hyps
 tested_hyps (EOp o a b) is_zero h = test_hyps (tested_hyps a) is_zero (compared o) a b h
 tested_hyps a is_zero h = []

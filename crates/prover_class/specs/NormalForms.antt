@@ -9,6 +9,7 @@ use Rattle.word_ops.specs.Words.{word_of, test_of}
 use Rattle.formula_tree.specs.Formulas.{Exp, EReg, ELeft, EVar, ELit, EOp, ESel, FRel}
 use Rattle.formula_tree.specs.Variables.{PExp, subst_var_exp}
 use Rattle.lf_terms.specs.ProofTerms.{word_rule, move, swap, up, eq_refl, calc, fact}
+use Rattle.lf_terms.specs.declared.numbers.TheConstants.{ADD_ASSOC, ADD_COMM, ADD_ZERO, BIC_DEF, BIS_ZERO, BIS_ZERO_L, S4_DEF, S8_DEF, SUB_NEG, XOR_SELF}
 use Rattle.prover_class.specs.Hypotheses.{same_exp}
 use Rattle.prover_class.specs.Bounds.{max_word}
 
@@ -38,40 +39,46 @@ summand_key outside (ELit w) = 32
 summand_key outside (EOp o a b) = 31
 summand_key outside (ESel m a) = 31
 
--- (add a b) to (add b a), where b comes before a
+-- (add a b) to (add b a), if b comes before a
 abbrev pub swapped : ℕ → Exp → Exp → List Rewriting
-swapped outside a b = if nat_lt (summand_key outside b) (summand_key outside a) then whole_step (EOp Add a b) (EOp Add b a) (word_rule 46 (a ∷ b ∷ []) []) else []
+swapped outside a b =
+    if nat_lt (summand_key outside b) (summand_key outside a) then
+    whole_step (EOp Add a b) (EOp Add b a) (word_rule ADD_COMM (a ∷ b ∷ []) [])
+    else []
 
 -- (add a (add b c)) to (add b (add a c)), in three steps
 abbrev pub turned : Exp → Exp → Exp → List Rewriting
 turned a b c =
-    rewriting (EVar 0) (EOp Add a (EOp Add b c)) (EOp Add (EOp Add a b) c) (swap (EOp Add (EOp Add a b) c) (EOp Add a (EOp Add b c)) (word_rule 47 (a ∷ b ∷ c ∷ []) []))
-    ∷ rewriting (EOp Add (EVar 0) (up c)) (EOp Add a b) (EOp Add b a) (word_rule 46 (a ∷ b ∷ []) [])
-    ∷ rewriting (EVar 0) (EOp Add (EOp Add b a) c) (EOp Add b (EOp Add a c)) (word_rule 47 (b ∷ a ∷ c ∷ []) [])
+    rewriting (EVar 0) (EOp Add a (EOp Add b c)) (EOp Add (EOp Add a b) c)
+    (swap (EOp Add (EOp Add a b) c) (EOp Add a (EOp Add b c)) (word_rule ADD_ASSOC (a ∷ b ∷ c ∷ []) []))
+    ∷ rewriting (EOp Add (EVar 0) (up c)) (EOp Add a b) (EOp Add b a) (word_rule ADD_COMM (a ∷ b ∷ []) [])
+    ∷ rewriting (EVar 0) (EOp Add (EOp Add b a) c) (EOp Add b (EOp Add a c)) (word_rule ADD_ASSOC (b ∷ a ∷ c ∷ []) [])
     ∷ []
 
 -- an operator that others define, or an exclusive or of an expression with itself, rewritten
 abbrev pub rewrite_defined : Op → Exp → Exp → List Rewriting
 rewrite_defined S4add a b =
-    whole_step (EOp S4add a b) (EOp Add (EOp Sll a (ELit 2)) b) (word_rule 98 (a ∷ b ∷ []) [])
+    whole_step (EOp S4add a b) (EOp Add (EOp Sll a (ELit 2)) b) (word_rule S4_DEF (a ∷ b ∷ []) [])
 rewrite_defined S8add a b =
-    whole_step (EOp S8add a b) (EOp Add (EOp Sll a (ELit 3)) b) (word_rule 99 (a ∷ b ∷ []) [])
+    whole_step (EOp S8add a b) (EOp Add (EOp Sll a (ELit 3)) b) (word_rule S8_DEF (a ∷ b ∷ []) [])
 rewrite_defined Bic a b =
     whole_step (EOp Bic a b) (EOp Band a (EOp Xor b (ELit max_word)))
-    (word_rule 103 (a ∷ b ∷ []) [])
+    (word_rule BIC_DEF (a ∷ b ∷ []) [])
 rewrite_defined Xor a b =
-    if same_exp a b then whole_step (EOp Xor a b) (ELit 0) (word_rule 96 (a ∷ []) []) else []
+    if same_exp a b then whole_step (EOp Xor a b) (ELit 0) (word_rule XOR_SELF (a ∷ []) []) else []
 rewrite_defined o a b = []
 
 -- The rewriting of an operator at two expressions, if there is one. Two words are computed first,
 -- whatever the operator.
 abbrev pub rewrite_at : ℕ → Op → Exp → Exp → List Rewriting
 rewrite_at outside o (ELit v) (ELit w) = whole_step (EOp o (ELit v) (ELit w)) (ELit (word_of o v w)) (calc o v w)
-rewrite_at outside Sub a (ELit w) = whole_step (EOp Sub a (ELit w)) (EOp Add a (EOp Sub (ELit 0) (ELit w))) (word_rule 50 (a ∷ ELit w ∷ []) [])
-rewrite_at outside Add a (ELit zero) = whole_step (EOp Add a (ELit 0)) a (word_rule 48 (a ∷ []) [])
-rewrite_at outside Bis a (ELit zero) = whole_step (EOp Bis a (ELit 0)) a (word_rule 55 (a ∷ []) [])
-rewrite_at outside Bis (ELit zero) a = whole_step (EOp Bis (ELit 0) a) a (word_rule 56 (a ∷ []) [])
-rewrite_at outside Add (EOp Add a b) c = whole_step (EOp Add (EOp Add a b) c) (EOp Add a (EOp Add b c)) (word_rule 47 (a ∷ b ∷ c ∷ []) [])
+rewrite_at outside Sub a (ELit w) =
+    whole_step (EOp Sub a (ELit w)) (EOp Add a (EOp Sub (ELit 0) (ELit w))) (word_rule SUB_NEG (a ∷ ELit w ∷ []) [])
+rewrite_at outside Add a (ELit zero) = whole_step (EOp Add a (ELit 0)) a (word_rule ADD_ZERO (a ∷ []) [])
+rewrite_at outside Bis a (ELit zero) = whole_step (EOp Bis a (ELit 0)) a (word_rule BIS_ZERO (a ∷ []) [])
+rewrite_at outside Bis (ELit zero) a = whole_step (EOp Bis (ELit 0) a) a (word_rule BIS_ZERO_L (a ∷ []) [])
+rewrite_at outside Add (EOp Add a b) c =
+    whole_step (EOp Add (EOp Add a b) c) (EOp Add a (EOp Add b c)) (word_rule ADD_ASSOC (a ∷ b ∷ c ∷ []) [])
 rewrite_at outside Add a (EOp Add b c) = if nat_lt (summand_key outside b) (summand_key outside a) then turned a b c else swapped outside a (EOp Add b c)
 rewrite_at outside Add a b = swapped outside a b
 rewrite_at outside o a b = rewrite_defined o a b

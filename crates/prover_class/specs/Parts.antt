@@ -16,8 +16,8 @@ abbrev pub conjoined : List Form → Form
 conjoined [] = FTrue
 conjoined (A ∷ l) = FAnd A (conjoined l)
 
--- how many binders count as outside of a part: where no steps are counted, that of the steps that are
--- left, which isn't there
+-- How many binders are counted outside a part that aren't there: none if steps are counted, else one, for the binder
+-- of the remaining steps. So r0 is the third outermost variable of every part.
 abbrev pub outside_part : Bool → ℕ
 outside_part true = 0
 outside_part false = 1

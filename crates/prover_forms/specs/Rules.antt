@@ -7,6 +7,7 @@ use Rattle.word_ops.specs.Words.{word_of}
 use Rattle.formula_tree.specs.Formulas.{Exp, ELit, EOp}
 use Rattle.lf_terms.specs.Encoding.{exp_encoding}
 use Rattle.lf_terms.specs.ProofTerms.{word_rule, calc}
+use Rattle.lf_terms.specs.declared.numbers.TheConstants.{ADD_ASSOC, ADD_COMM, BIC_DEF, SUB_NEG, XOR_SELF}
 use Rattle.prover_class.specs.Bounds.{max_word}
 use Rattle.prover_class.specs.NormalForms.{whole_step, turned, rewrite_at}
 use Rattle.prover_forms.specs.declared.rules.Rule.{Rule}
@@ -38,7 +39,7 @@ pub record IsRegrouped (t : TableView) (outside : ℕ) (o : Op) (x y : Exp) (p q
   pub right : Exp
   pub left_is : tree_at t p ≡ exp_encoding left
   pub right_is : tree_at t q ≡ exp_encoding right
-  pub is : rewrite_at outside o x y ≡ whole_step (EOp o x y) (regrouped_sum left right y) (word_rule 47 (left ∷ right ∷ y ∷ []) [])
+  pub is : rewrite_at outside o x y ≡ whole_step (EOp o x y) (regrouped_sum left right y) (word_rule ADD_ASSOC (left ∷ right ∷ y ∷ []) [])
 
 -- (add x (add left right)), which is to be (add left (add x right))
 pub record IsTurned (t : TableView) (outside : ℕ) (o : Op) (x y : Exp) (p q : ℕ) : Type 0 where
@@ -53,7 +54,7 @@ pub record IsTurned (t : TableView) (outside : ℕ) (o : Op) (x y : Exp) (p q : 
 abbrev pub IsRule : TableView → ℕ → Op → Exp → Exp → Rule → Type 0
 IsRule t out o x y L.Nothing = rewrite_at out o x y ≡ []
 IsRule t out o x y (L.Value v w) = rewrite_at out o x y ≡ whole_step (EOp o x y) (ELit (word_of o v w)) (calc o v w)
-IsRule t out o x y L.Negated = rewrite_at out o x y ≡ whole_step (EOp o x y) (negated_sum x y) (word_rule 50 (x ∷ y ∷ []) [])
+IsRule t out o x y L.Negated = rewrite_at out o x y ≡ whole_step (EOp o x y) (negated_sum x y) (word_rule SUB_NEG (x ∷ y ∷ []) [])
 IsRule t out o x y (L.First n) = rewrite_at out o x y ≡ whole_step (EOp o x y) x (word_rule n (x ∷ []) [])
 IsRule t out o x y (L.Second n) = rewrite_at out o x y ≡ whole_step (EOp o x y) y (word_rule n (y ∷ []) [])
 IsRule t out o x y (L.Regrouped p q) = IsRegrouped t out o x y p q
@@ -63,10 +64,10 @@ IsRule t out o x y (L.Scaled n c) =
     ≡ whole_step (EOp o x y) (scaled_sum c x y) (word_rule n (x ∷ y ∷ []) [])
 IsRule t out o x y L.Complemented =
     rewrite_at out o x y
-    ≡ whole_step (EOp o x y) (cleared_bits x y) (word_rule 103 (x ∷ y ∷ []) [])
+    ≡ whole_step (EOp o x y) (cleared_bits x y) (word_rule BIC_DEF (x ∷ y ∷ []) [])
 IsRule t out o x y L.Cancelled =
-    rewrite_at out o x y ≡ whole_step (EOp o x y) (ELit 0) (word_rule 96 (x ∷ []) [])
-IsRule t out o x y L.Swapped = rewrite_at out o x y ≡ whole_step (EOp o x y) (swapped_sum x y) (word_rule 46 (x ∷ y ∷ []) [])
+    rewrite_at out o x y ≡ whole_step (EOp o x y) (ELit 0) (word_rule XOR_SELF (x ∷ []) [])
+IsRule t out o x y L.Swapped = rewrite_at out o x y ≡ whole_step (EOp o x y) (swapped_sum x y) (word_rule ADD_COMM (x ∷ y ∷ []) [])
 
 -- the parts that a rule names are the table's
 abbrev pub IsKnownRule : TableView → Rule → Type 0

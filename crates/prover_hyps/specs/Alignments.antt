@@ -11,6 +11,7 @@ use Rattle.prover_ids.specs.declared.kept.Kept.{Kept}
 use Rattle.prover_ids.specs.Hypotheses.{AreHyps}
 use Rattle.prover_ids.specs.declared.hypotheses.Hypothesis.{Hypothesis}
 use Rattle.lf_terms.specs.ProofTerms.{word_rule, eq_refl, move, up, calc}
+use Rattle.lf_terms.specs.declared.numbers.TheConstants.{AND_ASSOC, AND_ZERO}
 use Rattle.prover_class.specs.Hypotheses.{Hyps, find_hyp}
 use Rattle.prover_class.specs.Goals.{first_of, aligned_form, alignment_proof}
 use Rattle.prover_hyps.specs.declared.alignments.Aligned.{Aligned}
@@ -18,7 +19,7 @@ use Rattle.prover_hyps.specs.contracts.alignments.AlignedOrd.TheImpl as block
 
 -- from (eq e e) to (eq e (band x i))
 abbrev pub masked_first : Exp → Exp → Exp → Exp → Exp → Tree
-masked_first x y s i e = move (FRel Eq (up e) (EVar 0)) e (EOp Band x i) (word_rule 52 (x ∷ y ∷ s ∷ []) []) (eq_refl e)
+masked_first x y s i e = move (FRel Eq (up e) (EVar 0)) e (EOp Band x i) (word_rule AND_ASSOC (x ∷ y ∷ s ∷ []) []) (eq_refl e)
 
 -- from there to (eq e (band x z))
 abbrev pub masked_second : Exp → Exp → Exp → Exp → ℕ → Tree → Tree
@@ -26,7 +27,7 @@ masked_second x i e z w p = move (FRel Eq (up e) (EOp Band (up x) (EVar 0))) i z
 
 -- from there to (eq e z)
 abbrev pub masked_third : Exp → Exp → Exp → Tree → Tree
-masked_third x e z p = move (FRel Eq (up e) (EVar 0)) (EOp Band x z) z (word_rule 53 (x ∷ []) []) p
+masked_third x e z p = move (FRel Eq (up e) (EVar 0)) (EOp Band x z) z (word_rule AND_ZERO (x ∷ []) []) p
 
 -- the alignment of whatever expression the id stands for, or none
 abbrev pub IsAlignmentOf : TableView → TableView → List Hypothesis → ℕ → Option ℕ → Type 0

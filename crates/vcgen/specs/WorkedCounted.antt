@@ -86,9 +86,9 @@ looping =
 abbrev pub looping_invs : List (ℕ × Form)
 looping_invs = (1, FAnd (FRel Eq ELeft (EReg 4)) (FRel Ule (ELit 4) (EReg 4))) ∷ []
 
--- what it says of a number of steps and of a word of r4
-abbrev pub looping_holds : Exp → Exp → Form
-looping_holds left word = FAnd (FRel Eq left word) (FRel Ule (ELit 4) word)
+-- the invariant at a number of remaining steps and a word of r4: (and (eq 40 40) (ule 4 40)) at 40 and 40
+abbrev pub loop_invariant : Exp → Exp → Form
+loop_invariant left r4 = FAnd (FRel Eq left r4) (FRel Ule (ELit 4) r4)
 
 -- what is tested; r4 is variable 26
 abbrev pub less_than_8 : Exp
@@ -99,9 +99,9 @@ abbrev pub bounded_loop : Form
 bounded_loop =
     FAnd
     (closed_counted (FImp tag_asks
-    (FAnd (one_left (ELit 41)) (looping_holds (after 1 (ELit 41)) (plus (ELit 0) (ELit 40))))))
+    (FAnd (one_left (ELit 41)) (loop_invariant (after 1 (ELit 41)) (plus (ELit 0) (ELit 40))))))
     (FAnd
-    (closed_counted (FImp (looping_holds now_left (EVar 26))
+    (closed_counted (FImp (loop_invariant now_left (EVar 26))
     (FAnd (one_left now_left)
     (FAnd (one_left (after 1 now_left))
     (FAnd
@@ -109,7 +109,7 @@ bounded_loop =
     (FImp (FRel Eq less_than_8 (ELit 0))
     (FAnd (one_left (after 2 now_left))
     (FAnd (one_left (after 3 now_left))
-    (looping_holds (after 4 now_left) (EOp Sub (EVar 26) (ELit 4)))))))))))
+    (loop_invariant (after 4 now_left) (EOp Sub (EVar 26) (ELit 4)))))))))))
     FTrue)
 
 -- ---- br to itself, with the bound 1,000,000,000 and the invariant (ult 0 left): at the start the

@@ -9,6 +9,7 @@ use Rattle.lf_terms.specs.Encoding.{exp_encoding}
 use Rattle.prover_ids.specs.Hypotheses.{AreHyps}
 use Rattle.prover_ids.specs.declared.hypotheses.Hypothesis.{Hypothesis}
 use Rattle.lf_terms.specs.ProofTerms.{word_rule, fact}
+use Rattle.lf_terms.specs.declared.numbers.TheConstants.{LE_LT, LT_LE, ULE_TRANS}
 use Rattle.prover_class.specs.Hypotheses.{Hyps}
 use Rattle.prover_class.specs.Bounds.{WordBound, upper_bound, lower_bound}
 use Rattle.prover_class.specs.Goals.{aligned_form}
@@ -16,12 +17,14 @@ use Rattle.prover_class.specs.Goals.{aligned_form}
 -- (ule a b) by a's upper bound v and b's lower bound w
 abbrev pub at_most_tree : Exp → Exp → WordBound → WordBound → Tree
 at_most_tree a b v w =
-    word_rule 64 (a ∷ ELit v.value ∷ b ∷ []) (v.proof ∷ word_rule 64 (ELit v.value ∷ ELit w.value ∷ b ∷ []) (fact Ule v.value w.value ∷ w.proof ∷ []) ∷ [])
+    word_rule ULE_TRANS (a ∷ ELit v.value ∷ b ∷ [])
+    (v.proof ∷ word_rule ULE_TRANS (ELit v.value ∷ ELit w.value ∷ b ∷ []) (fact Ule v.value w.value ∷ w.proof ∷ []) ∷ [])
 
--- (ult a b) by the same
+-- (ult a b) by the same bounds
 abbrev pub less_tree : Exp → Exp → WordBound → WordBound → Tree
 less_tree a b v w =
-    word_rule 66 (a ∷ ELit w.value ∷ b ∷ []) (word_rule 67 (a ∷ ELit v.value ∷ ELit w.value ∷ []) (v.proof ∷ fact Ult v.value w.value ∷ []) ∷ w.proof ∷ [])
+    word_rule LT_LE (a ∷ ELit w.value ∷ b ∷ [])
+    (word_rule LE_LT (a ∷ ELit v.value ∷ ELit w.value ∷ []) (v.proof ∷ fact Ult v.value w.value ∷ []) ∷ w.proof ∷ [])
 
 -- what is given of the relation of whatever expressions the ids stand for, or none
 abbrev pub IsRelationProof : (Hyps → Form → Option Tree) → TableView → TableView → List Hypothesis → Rel → ℕ → ℕ → Option ℕ → Type 0
