@@ -7,7 +7,7 @@ from __future__ import annotations
 
 import re
 from dataclasses import dataclass
-from typing import Dict, List, Optional, Set, Tuple
+from typing import Dict, List, Optional, Set
 
 ZERO = 31  # the register that reads as 0
 BRANCHES = ("blbc", "beq", "blt", "ble", "blbs", "bne", "bge", "bgt")
@@ -156,7 +156,7 @@ class Code:
         return found
 
     def live_after(self, live: List[Set[int]], index: int) -> Set[int]:
-        """Returns the registers that are live behind an index."""
+        """Returns the registers that are live after an index."""
         return set().union(*(live[j] for j in self.successors(index)))
 
 

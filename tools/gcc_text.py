@@ -250,7 +250,7 @@ class Translator:
         self.shift("sra", ra, 32, ra)
 
     def move(self, texts: List[str]) -> None:
-        """Copies a register or a constant. `clr` has no first operand; `ldi` has it behind the register."""
+        """Copies a register or a constant. `clr` has no first operand; `ldi` has it after the register."""
         texts = ["0"] + texts if len(texts) == 1 else texts
         source, target = (texts[1], texts[0]) if texts[1] not in REGISTERS else texts
         if source in REGISTERS:

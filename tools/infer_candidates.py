@@ -6,7 +6,7 @@ from __future__ import annotations
 
 import random
 import re
-from typing import Dict, List, NamedTuple, Optional, Sequence, Set, Tuple
+from typing import Dict, List, NamedTuple, Optional, Sequence, Set
 
 from alpha_run import NAMED, WORD, Span, State, is_in, run, start
 from alpha_text import ZERO, Source
@@ -157,7 +157,8 @@ class Candidates:
         for base in self.registers:
             for count in self.registers:
                 if base != count and (base, count) != (16, 17) and self.spans(base, count):
-                    found.append(re.sub("r17", "r%d" % count, re.sub("r16", "r%d" % base, rights)))
+                    names = {"r16": "r%d" % base, "r17": "r%d" % count}
+                    found.append(re.sub("r1[67]", lambda it: names[it[0]], rights))
         readable = [it for it in self.registers if it != 16 and all(is_in(v.readable, v.registers[it]) for v in self.visits)]
         return found + ["(rd (add r%d 0))" % it for it in readable]
 

@@ -11,7 +11,7 @@ import re
 import subprocess
 import sys
 from dataclasses import dataclass, field
-from typing import Callable, Dict, Iterable, List, NamedTuple, Optional, Sequence, Set, Tuple
+from typing import Dict, Iterable, List, NamedTuple, Optional, Sequence, Set, Tuple
 
 from alpha_text import LOADS, Source
 from formula_text import NotTried, conjunction, conjuncts, holds, instance, normal, parse, put, split, text_of
@@ -222,7 +222,7 @@ class Search:
 
     @staticmethod
     def taken(kept: List[str], rest: List[str]) -> List[str]:
-        """Takes from `rest` what a line still has room for beside `kept`. What never has is dropped."""
+        """Takes from `rest` what a line still has room for after `kept`. What never has is dropped."""
         room, found = MOST_COLUMNS - sum(len(it) + 6 for it in kept), []  # type: Tuple[int, List[str]]
         while rest and len(rest[0]) + 6 < room:
             room -= len(rest[0]) + 6
