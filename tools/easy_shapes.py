@@ -1,6 +1,7 @@
 """Rewrites code so that `pcc prove` proves more of it, for tools/from_c. What the code computes stays as it is.
 
-`prove` knows sums better than copies, `cmpult` better than `cmpule`, and multiples of 8 by shifts (docs/PROVING.md).
+`prove` knows sums better than copies, `cmpult` better than `cmpule` and tests for 0, and multiples of 8 by shifts
+(docs/PROVING.md).
 """
 from __future__ import annotations
 
@@ -140,6 +141,21 @@ def compared(code: Code) -> Code:
     return code.replaced(new)
 
 
+def bounded(code: Code, spare: Optional[int]) -> Code:
+    """Returns the code with `cmpult rX,1` before a test whether rX is 0, if rX is the upper end of indices.
+
+    That is a register that indices are compared with, and that never changes. Then `prove` knows that it is at least 1,
+    and so that the index 0 is below it.
+    """
+    ends = {it.rb for it in code.insns if it.op == "cmpult" and it.literal is None} - {it.writes() for it in code.insns}
+    new: Dict[int, List[Insn]] = {}
+    for index, insn in enumerate(code.insns):
+        if spare is not None and insn.op in OTHER and insn.ra in ends:
+            test = replace(insn, op="cmpult", rc=spare, literal=1, label="")
+            new[index] = [test, replace(insn, op=OTHER[insn.op], ra=spare)]
+    return code.replaced(new)
+
+
 def spelled(insn: Insn, spare: Optional[int]) -> List[Insn]:
     """Returns the instruction as others: `lda` for a copy or 0, shifts for a mask of multiples of 8, `sll` for `s4addq`."""
     if insn.op == "bis" and insn.literal is None and insn.rb == ZERO:
@@ -155,5 +171,5 @@ def spelled(insn: Insn, spare: Optional[int]) -> List[Insn]:
 
 def easy(code: Code, spare: Optional[int]) -> Code:
     """Returns the code in shapes that `prove` knows. `spare` is a register that the code doesn't use, if there is one."""
-    code = compared(shortened(code))
+    code = bounded(compared(shortened(code)), spare)
     return code.replaced({index: spelled(it, spare) for index, it in enumerate(code.insns)})

@@ -35,6 +35,7 @@ REASONS = {
 }
 OPPOSITE = {"eq": "bne", "ne": "beq", "lt": "bge", "ge": "blt", "le": "bgt", "gt": "ble", "lbs": "blbc", "lbc": "blbs"}
 LOW_BYTES = {1: ("and", 255), 2: ("extwl", 0), 4: ("extll", 0)}
+FILE = re.compile(r'\.file (\d+) (?:"[^"]*" )?"([^"]*)"')
 WIDTHS = {"b": 1, "w": 2, "l": 4, "q": 8}
 
 
@@ -96,17 +97,18 @@ class Translator:
         if match:
             self.labels[match.group(1)] = len(self.insns)
         elif line.startswith("."):
-            self.directive(line.split())
+            self.directive(line)
         elif line and not line.startswith("#") and not line.endswith(":"):
             try:
                 self.insn(line)
             except Unsupported as reason:
                 self.fault(str(reason))
 
-    def directive(self, words: List[str]) -> None:
+    def directive(self, line: str) -> None:
         """Takes the name of a file, the line that what follows is of, and the function's name."""
-        if words[0] == ".file" and words[1].isdigit():
-            self.files[words[1]] = words[-1].strip('"')
+        words, file = line.split(), FILE.match(line)
+        if file:
+            self.files[file.group(1)] = file.group(2)
         elif words[0] == ".loc":
             self.file, self.line = self.files.get(words[1], ""), int(words[2])
             if self.second:

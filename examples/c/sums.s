@@ -4,7 +4,8 @@
 # 7: scratch[1] = 0;
       stq r31,8(r18)
 # 8: for (at = 0; at < length; at += 8) {
-      beq r17,L4
+      cmpult r17,1,r28
+      bne r28,L4
       lda r2,0(r31)
 # 9: u64 next = QUAD(at);
 L3:
