@@ -16,6 +16,7 @@
       lda r2,16(r31)
 # 10: u64 next = QUAD(at);
 L4:
+      .inv (and (all x0 (imp (and (ult x0 r17) (eq (band x0 7) 0)) (rd (add r16 x0)))) (and (eq (band r2 7) 0) (ult r2 r17)))
       addq r16,r2,r1
       ldq r1,0(r1)
 # 11: sum += (next & 0xffffffff) + (next >> 32);

@@ -9,6 +9,7 @@
       lda r2,0(r31)
 # 9: u64 next = QUAD(at);
 L3:
+      .inv (and (all x0 (imp (and (ult x0 r17) (eq (band x0 7) 0)) (rd (add r16 x0)))) (and (all x0 (imp (and (ult x0 16) (eq (band x0 7) 0)) (and (rd (add r18 x0)) (wr (add r18 x0))))) (and (eq (band r2 7) 0) (ult r2 r17))))
       addq r16,r2,r1
       ldq r4,0(r1)
 # 10: scratch[next & 1] += next;
