@@ -217,7 +217,9 @@ class Search:
         for number in range(max(map(len, groups.values()), default=0)):
             rest = {head: [it for it in groups[head][number] if it not in kept[head]] for head in self.heads}
             while any(rest.values()):
-                kept = self.houdini({head: kept[head] + self.taken(kept[head], rest[head]) for head in self.heads})
+                more = {head: self.taken(kept[head], rest[head]) for head in self.heads}
+                if any(more.values()):
+                    kept = self.houdini({head: kept[head] + more[head] for head in self.heads})
         return kept
 
     @staticmethod
