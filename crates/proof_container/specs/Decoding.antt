@@ -59,8 +59,8 @@ policy_at bytes version =
     else raw_at bytes 2 (policy_size version) >>= (λ d. Ok (Digest d))
 
 -- how many steps the code makes at most, where the version bounds them
-unfoldable pub bound_at : List ℕ → ℕ → Result (Option ℕ) Fault
-bound_at bytes version =
+unfoldable pub step_bound_at : List ℕ → ℕ → Result (Option ℕ) Fault
+step_bound_at bytes version =
     if version == 3
     then between_at bytes (2 + policy_size version) 1 MAX_BOUND Count >>= (λ n. Ok (Some n))
     else Ok None
@@ -79,7 +79,7 @@ decoded_head bytes = do
   first ← exact_at bytes 0 magic Magic
   version ← between_at bytes 1 1 MAX_VERSION Version
   head ← policy_at bytes version
-  bound ← bound_at bytes version
+  bound ← step_bound_at bytes version
   words ← between_at bytes (2 + policy_size version + bound_size version) 1 MAX_WORDS Count
   code ← raw_at bytes (code_field version) words
   Ok (record {
