@@ -80,4 +80,5 @@ abbrev pub wrong_operand : Profile → List (Placed Punct) → Option Span
 wrong_operand profile [] = None
 wrong_operand profile ((p, Mark m) ∷ ts) = None
 wrong_operand profile ((p, Lexeme w) ∷ ts) =
-    first_wrong (wanted_by (mnemonic_form (mnemonic_of profile w)) (length (lexemes_of ts))) (lexemes_of ts)
+    first_wrong (wanted_by (mnemonic_form (mnemonic_of profile w)) (length (lexemes_of ts)))
+    (lexemes_of ts)
