@@ -77,7 +77,7 @@ use Rattle.pcc_stages.specs.Stages.Packets.{packets_found, packets_in, packets_o
 use Rattle.pcc_commands.specs.declared.stages.TheConstants.{MAX_PROGRAM_FILE}
 use Rattle.pcc_commands.specs.Stages.Upgrading.{container_upgraded, upgraded_in, upgraded_of}
 use Rattle.pcc_commands.specs.Stages.Writing.{writing}
-use Rattle.pcc_commands.specs.Stages.Judging.{unless_refused, accepted_in, accepted_code_in, Shown, shown_in, accepted_of, accepted_code_of}
+use Rattle.pcc_commands.specs.Stages.Judging.{stops_if_refused, accepted_in, accepted_code_in, Shown, shown_in, accepted_of, accepted_code_of}
 use Rattle.pcc_commands.specs.Stages.Assembling.{source_found, source_in, container_made, assembled_as, assembled_in, assembled_of}
 use Rattle.pcc_commands.specs.Stages.Proving.{container_proved, proved_in, proved_of}
 use Rattle.pcc_commands.specs.Stages.Compiling.{program_found, program_in, compiled_as, compiled_in, compiled_of}
@@ -241,13 +241,13 @@ module _ (names : Option (List (List ℕ))) where
       (container_in policy bytes) (container_in-fits policy bytes)
       (λ c. code_found-fits (decoded_code (profile_of c.version) c.code))
 
-  unless_refused-fits : (r : Option Refusal) → Fits (unless_refused r)
-  unless_refused-fits None = refl
-  unless_refused-fits (Some r) = inl (refusal_stop r)
+  stops_if_refused-fits : (r : Option Refusal) → Fits (stops_if_refused r)
+  stops_if_refused-fits None = refl
+  stops_if_refused-fits (Some r) = inl (refusal_stop r)
 
   accepted_in-fits : (policy : PolicyView) (bytes : List ℕ) → Fits (accepted_in policy bytes)
   unfolding accepted_in
-  accepted_in-fits policy bytes = unless_refused-fits (first_refusal policy bytes)
+  accepted_in-fits policy bytes = stops_if_refused-fits (first_refusal policy bytes)
 
   accepted_code_in-fits : (policy : PolicyView) (bytes : List ℕ)
       → Fits (accepted_code_in policy bytes)
