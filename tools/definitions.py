@@ -333,8 +333,8 @@ class Library:
 
     def find(self, module: str, name: str) -> List[Node]:
         """Returns what the name may mean in a module: several definitions if they have a constructor of this name."""
-        crate, mark, inner = module.partition(".specs.declared")
-        if mark:
+        crate, declared, inner = module.partition(".specs.declared")
+        if declared:
             return list(self.code.declared(crate, inner.strip(".").split(".") + [name]))
         scope = self.module(module)
         if scope and name in scope.declared:
@@ -366,7 +366,9 @@ class Library:
 
     def pattern(self, scope: Scope, tokens: List[Token], own: str) -> Tuple[Names, List[Path]]:
         """Returns the names that the left side of a clause of `own` binds, and the constructors in it."""
-        names, found, at = set(), [], 0
+        names: Set[str] = set()
+        found: List[Path] = []
+        at = 0
         while at < len(tokens):
             begin, at = at, at + 1
             text = tokens[begin].text
@@ -421,7 +423,7 @@ class Library:
             if isinstance(one, sources.Item):
                 self.known[one] = [[node] for node in self.code.named_by(one)]
             else:
-                self.known[one] = [self.resolve(one.scope, path) for path in set(self.names_of(one))]
+                self.known[one] = [self.resolve(one.scope, path) for path in sorted(set(self.names_of(one)))]
         return self.known[one]
 
     def clause_nodes(self, path: str, function: sources.Function, clause: sources.Clause) -> Iterator[List[Node]]:
@@ -435,14 +437,15 @@ class Library:
     def reached(self, begin: Iterable[List[Node]]) -> Set[Node]:
         """Returns all that these depend on, themselves included. If a constructor's name is that of two types, both
         count, unless one is reached otherwise."""
-        todo, unclear = list(begin), []
+        todo: List[List[Node]] = list(begin)
+        unclear: List[List[Node]] = []
         found: Set[Node] = set()
         while todo or unclear:
             nodes = todo.pop() if todo else unclear.pop()
             if len(nodes) > 1 and todo:
                 unclear.append(nodes)
             elif not (len(nodes) > 1 and found.intersection(nodes)):
-                for node in set(nodes) - found:
+                for node in nodes:
+                    todo += [] if node in found else self.nodes_of(node)
                     found.add(node)
-                    todo += self.nodes_of(node)
         return found

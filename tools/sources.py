@@ -17,7 +17,7 @@ ATTRIBUTE = re.compile(r"\s*#!?\[")
 SENTENCE_END = re.compile(r"(?<=[.!?])\s+(?=[A-Z0-9`\[(*\"])")
 CODE_SPAN = re.compile(r"`[^`]*`")
 CLAUSE = re.compile(r"^[ ]*(requires|ensures)\b *(\w*)[^{\n]*\{", re.M)
-ITEM_HEAD = re.compile(r"(?:pub(?:\([a-z]+\))? )?(?:enum|struct|trait|type|const|static) (\w+)")
+ITEM_HEAD = re.compile(r"(?:pub(?:\([a-z]+\))? )?(?:enum|struct|trait|type|const|static) (?!fn\b)(\w+)")
 CODE_USE = re.compile(r"^(?:pub(?:\([a-z]+\))? )?use ([\w:]+?)(?:::\{([^}]*)\})?;", re.M)
 # What isn't read of an item of code: comments, quoted text, attributes.
 UNREAD = re.compile(r'//[^\n]*|"(?:\\.|[^"\\])*"|\'(?:\\.|[^\'\\])\'|^[ ]*#!?\[[^\n]*', re.M)
@@ -338,12 +338,13 @@ class Items:
         """Returns the names that the `use` lines of a file of code bring in, each with its crate and its name there."""
         if path not in self.brought:
             own = os.path.relpath(path, os.path.join(self.top, "crates")).split(os.sep)[0]
-            found = self.brought[path] = {}
+            found: Dict[str, Tuple[str, str]] = {}
             for module, many in CODE_USE.findall(read(path)):
                 head, *inner = module.split("::")
                 for name in re.findall(r"[\w:]+(?: as \w+)?", many) if many else inner[-1:]:
                     old, _, new = name.split("::")[-1].partition(" as ")
                     found[new or old] = (own if head == "crate" else head, old)
+            self.brought[path] = found
         return self.brought[path]
 
     def named_by(self, item: Item) -> Iterator[Item]:
