@@ -52,7 +52,7 @@ module _ (policy : PolicyView) (bytes : List ℕ) (contents : Contents) (code : 
   unfolding shown_in accepted_in
   shown_of_bytes none =
       ap (λ r. stops_if_refused r >>= λ accepted. container_in policy bytes
-          >>= λ container. code_in policy bytes >>= λ insns. gives (shown insns container)) none
+      >>= λ container. code_in policy bytes >>= λ insns. gives (shown insns container)) none
       ∙ ap (λ c. c >>= λ container. code_in policy bytes >>= λ insns. gives (shown insns container)) container_given
       ∙ ap (λ c. c >>= λ insns. gives (shown insns contents)) code_given
     where

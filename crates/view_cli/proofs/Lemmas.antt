@@ -85,8 +85,8 @@ unfolding listing_of
 listing-read bytes lines c short is =
     ap
     (λ (b : Bool).
-        (if b then Err (TooLong (length bytes)) else contents_or (λ at what. Malformed at what) (decoded_container bytes))
-        >>= λ x. Ok (listing_text x lines)) (le-ltb MAX_BYTES (length bytes) short)
+    (if b then Err (TooLong (length bytes)) else contents_or (λ at what. Malformed at what) (decoded_container bytes))
+    >>= λ x. Ok (listing_text x lines)) (le-ltb MAX_BYTES (length bytes) short)
     ∙ ap
     (λ (r : Result Contents Fault). contents_or (λ at what. Malformed at what) r >>= λ x. Ok (listing_text x lines)) is
 
