@@ -26,7 +26,7 @@ use Rattle.pcc_asm.specs.declared.fault.AsmFlaw.{AsmFlaw}
 use Rattle.pcc_asm.specs.Names.{asm_flaw_line, asm_flaw_name}
 use Rattle.pcc_asm.specs.Assembling.{assembled_contents}
 use Rattle.bounds_prover.specs.declared.fault.ProveFlaw.{ProveFlaw}
-use Rattle.bounds_prover.specs.declared.fault.ProveFlaw.TheVariants as flaw
+use Rattle.bounds_prover.specs.declared.fault.ProveFlaw.TheVariants as prove_flaw
 use Rattle.bounds_prover.specs.Names.{measure_name}
 use Rattle.bounds_prover.specs.declared.fault.Measure.TheVariants.{Bytes}
 use Rattle.bounds_prover.specs.Proving.{proved_container}
@@ -286,10 +286,10 @@ module _ (names : Option (List (List ℕ))) where
 
   container_proved-fits : (r : Result (List ℕ) ProveFlaw) → Fits (container_proved r)
   container_proved-fits (Ok bytes) = refl
-  container_proved-fits (Err (flaw.Refused r)) = inl (refusal_stop r)
-  container_proved-fits (Err (flaw.NotEasy part)) =
+  container_proved-fits (Err (prove_flaw.Refused r)) = inl (refusal_stop r)
+  container_proved-fits (Err (prove_flaw.NotEasy part)) =
       inl (let first : get_or (not_easy_line part) 0 0 ≡ 110 = not_easy-first part in stop_line (not_easy_line part) (omega arith))
-  container_proved-fits (Err (flaw.TooBig measure number)) =
+  container_proved-fits (Err (prove_flaw.TooBig measure number)) =
       inl (too_big_stop (measure_name measure) number)
 
   proved_in-fits : (policy : PolicyView) (bytes : List ℕ) → Fits (proved_in policy bytes)
