@@ -1,33 +1,37 @@
 #!/usr/bin/env bash
-# Prints one table of the program's speed, each row median of five beside a ratio: start-up; asm, prove
-# and check on examples and at limits; packets and steps a second of ref and run, beside the same filters
-# as native loops (bench/native.c, where there is a C compiler), and beside libpcap, tcpdump and
-# qemu-alpha where they are installed; a loop of six instructions on one packet of 64 bytes, for which
-# loading counts nothing, beside qemu-alpha's translator, its -singlestep and libpcap's interpreter; last
-# how the cost of check, prove, bpf and host grows where what they read doubles (bench/growth.py). What is
-# missing is told.
+# Measures the program's speed, and prints a table for each of: start-up, asm, prove and check on examples; files at
+# limits; steps a second of ref and run on a checksum; packets a second on a filter for a port; a loop of six
+# instructions on one packet of 64 bytes, whose loading costs nothing; and files that double (bench/growth.py).
+#
+# The filters are measured beside native loops (bench/native.c, if there is a C compiler), and beside libpcap, tcpdump
+# and qemu-alpha (its translator and -singlestep) if they are installed. A line `missing: ..` says what isn't.
+# bench/tables.py has the form of the tables, and bench/plots draws them. Lines before the tables say when, on which
+# machine and with which kit the run was made; the last line says how long it took.
 #
 # PCC is the program that is measured; without it tools/build builds the proved one. CC is the
-# C compiler, cc without it; an empty CC leaves the native rows out. A line that isn't the one expected
-# ends the run with status 1.
+# C compiler, cc without it; an empty CC leaves the native rows out. If a command prints another line than the expected
+# one, a line `EXPECTED ..` says so, and the status is 1.
 #
 # usage: bench/all.sh
-set -eu
+set -euo pipefail
 top=$(cd "$(dirname "${BASH_SOURCE[0]}")/.." && pwd)
 . "$top/tools/usage.sh"
 usage 0 "$@"
 work=$(mktemp -d)
 trap 'rm -rf "$work"' EXIT
+given=${PCC:+given}
 . "$top/bench/program.sh"
 cd "$top"
-python3 - "$top/bench" "$PCC" "$work" "${CC-cc}" <<'PY'
+python3 -B - "$top/bench" "$PCC" "$work" "${CC-cc}" "$given" <<'PY'
 import os, shutil, statistics, struct, subprocess, sys, time
 sys.path.insert(0, sys.argv[1])
+from tables import Printer
 from terms import *
 import growth
 
-bench, binary, work, compiler = sys.argv[1:]
-failed = False
+bench, binary, work, compiler, given = sys.argv[1:]
+tables = Printer()
+tables.begin(binary, bool(given))
 
 def once(words):
     """What is printed, the status, and seconds of processor time and of the clock."""
@@ -38,20 +42,12 @@ def once(words):
     process.returncode = os.waitstatus_to_exitcode(status)
     return text, process.returncode, used.ru_utime + used.ru_stime, time.monotonic() - start
 
-def line(name, value, unit, ratio="", note=""):
-    print(("%-58s %12s %-12s %-28s %s" % (name, value, unit, ratio, note)).rstrip(), flush=True)
-
-def head(title):
-    print("\n" + title, flush=True)
-
 def median(words, wanted=None, times=5):
     """The medians of processor time and clock, and what is printed; the first line has to be the one wanted."""
-    global failed
     runs = [once(words) for _ in range(times)]
     got = runs[0][0].decode("utf-8", "replace").split("\n")[0] or "status %d" % runs[0][1]
     if wanted is not None and got != wanted:
-        failed = True
-        line("EXPECTED " + wanted, got, "")
+        tables.expected(wanted, got)
     return statistics.median(r[2] for r in runs), statistics.median(r[3] for r in runs), runs[0][0]
 
 def write(name, data):
@@ -63,46 +59,43 @@ def read(path):
     with open(path, "rb") as file:
         return file.read()
 
-def ratio(value, other, text):
-    return "%.2f x %s" % (value / other, text) if other else ""
+# ---- start-up; asm, prove, check
 
-# ---- start-up
+tables.table("ordinary: start-up, asm, prove and check of examples; the clock with start-up, median of five, of fifteen for start-up",
+             "command", "clock, ms", "times start-up", "processor, ms", "written, bytes")
+true_used, true_clock, _ = median(["/bin/true"], times=15)
+start_used, start_clock, _ = median([binary], "usage: pcc asm|prove|check|run|ref|demo|upgrade|host|bpf", 15)
 
-head("start-up, of the clock")
-_, true_clock, _ = median(["/bin/true"], times=15)
-line("/bin/true", "%.2f" % (true_clock * 1e3), "ms")
-_, start_clock, _ = median([binary], "usage: pcc asm|prove|check|run|ref|demo|upgrade|host|bpf", 15)
-line("pcc without words", "%.2f" % (start_clock * 1e3), "ms", ratio(start_clock, true_clock, "/bin/true"))
+def clock_row(name, used, clock, *written):
+    tables.row(name, "%.2f" % (clock * 1e3), "%.2f" % (clock / start_clock), "%.2f" % (used * 1e3), *written)
 
-# ---- asm, prove, check
-
-head("asm, prove and check, of the clock (start-up is in it), and processor time")
+clock_row("/bin/true start-up", true_used, true_clock)
+clock_row("pcc start-up", start_used, start_clock)
 for name, policy in [("ip", "filter"), ("port", "filter"), ("checksum", "filter"), ("sort", "table")]:
     source, plain, proved = "examples/%s/source.s" % name, work + "/plain", work + "/proved"
     for words, wanted in [(("asm", policy, source, plain), None), (("prove", policy, plain, proved), None), (("check", policy, proved), "accepted")]:
         used, clock, _ = median([binary, *words], wanted)
-        size = {"asm": plain, "prove": proved}.get(words[0])
-        line("%s %s" % (words[0], name), "%.2f" % (clock * 1e3), "ms", ratio(clock, start_clock, "start-up"),
-             "%.2f ms of processor time" % (used * 1e3) + (", %d bytes" % os.path.getsize(size) if size else ""))
+        out = {"asm": plain, "prove": proved}.get(words[0])
+        clock_row(words[0] + " " + name, used, clock, str(os.path.getsize(out)) if out else "")
 
 NOP, LOAD, STORE = 0x47FF041F, 0xA4320000, 0xB4320000
 insns = "\n".join(["addq $%d,%d,$%d" % (k % 8, k % 256, (k + 1) % 8) for k in range(1023)] + ["ret"]) + "\n"
 t = Terms()
 facts = returning_container(t, instead(t, *conjunction(t, [reflexive(t, t.lit(k)) for k in range(26170)])))
 stores = container(Terms(), FILTER, [STORE] * 1003 + [LOAD, 0x44203000, RETURN])
-head("at limits, processor time, median of three")
+tables.table("limits: files at limits; processor time with start-up, median of three", "command", "processor, ms", "times prove")
 before = 0
 for name, words, wanted in [
     ("asm of 1,024 instructions", ("asm", "filter", write("limit.s", insns.encode()), work + "/out"), "written 4124"),
     ("prove of 1,003 stores", ("prove", "filter", write("stores", stores), work + "/stores.proved"), "written 141624"),
-    ("check of that", ("check", "filter", work + "/stores.proved"), "accepted"),
+    ("check of these stores", ("check", "filter", work + "/stores.proved"), "accepted"),
     ("check of 26,170 facts, 261,909 entries", ("check", "tag", write("facts", facts)), "accepted"),
 ]:
     seconds = median([binary, *words], wanted, 3)[0]
-    line(name, "%.3f" % seconds, "s", ratio(seconds, before, "that of prove") if name == "check of that" else "")
-    before = seconds
+    tables.row(name, "%.1f" % (seconds * 1e3), "%.2f" % (seconds / before) if name == "check of these stores" else "")
+    before = max(seconds, 1e-3)
 
-# ---- packets
+# ---- packets, and native loops that filter them
 
 def packets_of(data):
     at = 0
@@ -160,52 +153,13 @@ if compiler and shutil.which(compiler):
                 name, seconds, taken = text.split()
                 if name == kind or name in ("libpcap", "six") and kind == "port":
                     native[name] = float(seconds), int(taken)
-else:
-    with_pcap = False
 
-def passes(title, name, path, count, unit_count, scale, unit, times):
-    """A row for ref, for run and for the native loop, in so many units a second; run's seconds."""
-    global failed
-    seconds = {}
-    for command in ("ref", "run"):
-        base = median([binary, command, "filter", proved[name], none], times=times)[0]
-        whole, _, text = median([binary, command, "filter", proved[name], path], times=times)
-        seconds[command], lines = max(whole - base, 1e-4), text.decode().split("\n")[:-1]
-        taken = sum(text.endswith(": 1") for text in lines)
-        assert len(lines) == count, (len(lines), count)
-        if name in native and native[name][1] != taken:
-            failed = True
-            line("EXPECTED %d taken" % native[name][1], taken, "")
-        line("%s, %s" % (command, title), "%.1f" % (unit_count / seconds[command] / scale), unit,
-             ratio(seconds["ref"], seconds["run"], "ref's speed") if command == "run" else "", "%.3f s, %d taken" % (seconds[command], taken))
-    if name in native:
-        line("native loop, the same", "%.1f" % (unit_count / native[name][0] / scale), unit,
-             ratio(seconds["run"], native[name][0], "run's speed"), "%.4f s" % native[name][0])
-    return seconds["run"]
+NO_COMPILER = "%s isn't there, or failed" % compiler if compiler else "CC is empty"
+NO_LIBPCAP = "libpcap: " + ("its headers aren't installed" if native else NO_COMPILER)
 
-head("steps a second, processor time without start-up and gate (the checksum of %d packets of 65,535 bytes, %d steps)" % (len(large), counted["checksum"]))
-checksum_seconds = passes("checksum", "checksum", large_file, len(large), counted["checksum"], 1e6, "M steps/s", 11)
-head("packets a second, likewise (%d frames of 64 to 98 bytes, TCP to port 80, %d steps; each line is put by itself)" % (len(small), counted["port"]))
-run_seconds = passes("port", "port", small_file, len(small), len(small), 1e3, "k packets/s", 5)
-if "libpcap" in native:
-    seconds, taken = native["libpcap"]
-    line("libpcap's filter `tcp dst port 80` on them", "%.1f" % (len(small) / seconds / 1e3), "k packets/s", ratio(run_seconds, seconds, "run's speed"), "%d taken" % taken)
-if not native:
-    line("native loops: %s" % ("CC is empty" if not compiler else compiler + " isn't there, or failed"), "missing", "")
-elif not with_pcap:
-    line("libpcap: its headers aren't installed", "missing", "")
+# ---- qemu-alpha
 
-if shutil.which("tcpdump"):
-    capture = struct.pack("<IHHiIII", 0xA1B2C3D4, 2, 4, 0, 0, 65535, 1)
-    capture += b"".join(struct.pack("<IIII", 0, 0, len(p), len(p)) + p for p in small)
-    path, empty = write("capture", capture), write("capture.none", capture[:24])
-    base = median(["tcpdump", "-n", "-r", empty, "-w", work + "/taken", "tcp dst port 80"])[0]
-    seconds = max(median(["tcpdump", "-n", "-r", path, "-w", work + "/taken", "tcp dst port 80"])[0] - base, 1e-4)
-    line("tcpdump -r, the same filter, frames written", "%.1f" % (len(small) / seconds / 1e3), "k packets/s", ratio(run_seconds, seconds, "run's speed"))
-else:
-    line("tcpdump: it isn't installed", "missing", "")
-
-# ---- a loop of six instructions, and the checksum, under qemu-alpha too
+emulator = next((name for name in ("qemu-alpha", "qemu-alpha-static") if shutil.which(name)), None)
 
 def low_and_high(value):
     """What lda adds, and what ldah has to add before it."""
@@ -253,13 +207,79 @@ def emulated(flags, code, packet, counts, steps):
         seconds.append(statistics.median(r[2] for r in runs))
     return (counts[1] - counts[0]) * steps / max(seconds[1] - seconds[0], 1e-4) / 1e6
 
-def beside(rates, rows):
-    """The rows of other programs, and how many times as fast as each the host is."""
-    global failed
-    for name, rate in rows:
+# ---- rates: units of work a second, beside ref and run
+
+def begin_rates(title, unit, *columns):
+    tables.table(title, "program", unit, "times ref", "times run", *columns)
+
+def rate_row(name, rate, rates, *cells):
+    tables.row(name, "%.1f" % rate, "%.2f" % (rate / rates["ref"]), "%.2f" % (rate / rates["run"]), *cells)
+
+def emulated_rows(rates, rows):
+    """The rows of the emulator: name, flags, then what `emulated` takes after them."""
+    if emulator is None:
+        tables.missing("qemu-alpha isn't installed")
+    for name, flags, *words in rows if emulator else ():
+        rate = emulated(flags, *words)
         if rate is None:
-            failed = True
-        line(name, "failed" if rate is None else "%.1f" % rate, "M steps/s", "run: " + ratio(rates["run"], rate, "of it") if rate else "")
+            tables.expected(name, "another status")
+        else:
+            rate_row(name, rate, rates)
+
+def passes(name, path, count, work_units, times):
+    """Rows for ref, for run and for the native loop, in so many units a pass; the rates of ref and run."""
+    seconds, taken = {}, {}
+    for command in ("ref", "run"):
+        base = median([binary, command, "filter", proved[name], none], times=times)[0]
+        whole, _, text = median([binary, command, "filter", proved[name], path], times=times)
+        seconds[command], lines = max(whole - base, 1e-4), text.decode().split("\n")[:-1]
+        taken[command] = sum(text.endswith(": 1") for text in lines)
+        assert len(lines) == count, (len(lines), count)
+    rates = {command: work_units / seconds[command] for command in seconds}
+    for command in rates:
+        rate_row("pcc " + command, rates[command], rates, "%.4f" % seconds[command], str(taken[command]))
+    if name in native:
+        rate_row("native loop", work_units / native[name][0], rates, "%.4f" % native[name][0], str(native[name][1]))
+        for command in taken:
+            if native[name][1] != taken[command]:
+                tables.expected("%d packets taken" % native[name][1], "%d by %s" % (taken[command], command))
+    else:
+        tables.missing("native loop: " + NO_COMPILER)
+    return rates
+
+# ---- the checksum
+
+measured = "processor time without start-up and check, median of "
+begin_rates("checksum: checksum of %d packets of 65,535 bytes, %s steps; %seleven; qemu-alpha repeats one packet"
+            % (len(large), format(counted["checksum"], ","), measured), "million steps/s", "processor, s", "packets taken")
+rates = passes("checksum", large_file, len(large), counted["checksum"] / 1e6, 11)
+bytes_of = read(proved["checksum"])
+code = bytes_of[16:16 + 4 * struct.unpack_from("<I", bytes_of, 12)[0]]
+steps = counted["checksum"] / len(large)
+emulated_rows(rates, [("qemu-alpha -singlestep", ["-singlestep"], code, large[0], (1000, 4000), steps),
+                      ("qemu-alpha", [], code, large[0], (10000, 20000), steps)])
+
+# ---- the filter for a port
+
+begin_rates("packets: TCP to port 80 on %s frames of 64 to 98 bytes, %s steps; %sfive; pcc writes a line for each packet"
+            % (format(len(small), ","), format(counted["port"], ","), measured), "thousand packets/s", "processor, s", "packets taken")
+rates = passes("port", small_file, len(small), len(small) / 1e3, 5)
+if "libpcap" in native:
+    seconds, taken = native["libpcap"]
+    rate_row("libpcap's filter `tcp dst port 80`", len(small) / seconds / 1e3, rates, "%.4f" % seconds, str(taken))
+else:
+    tables.missing(NO_LIBPCAP)
+if shutil.which("tcpdump"):
+    capture = struct.pack("<IHHiIII", 0xA1B2C3D4, 2, 4, 0, 0, 65535, 1)
+    capture += b"".join(struct.pack("<IIII", 0, 0, len(p), len(p)) + p for p in small)
+    path, empty = write("capture", capture), write("capture.none", capture[:24])
+    base = median(["tcpdump", "-n", "-r", empty, "-w", work + "/taken", "tcp dst port 80"])[0]
+    seconds = max(median(["tcpdump", "-n", "-r", path, "-w", work + "/taken", "tcp dst port 80"])[0] - base, 1e-4)
+    rate_row("tcpdump -r, which writes the frames", len(small) / seconds / 1e3, rates, "%.4f" % seconds)
+else:
+    tables.missing("tcpdump isn't installed")
+
+# ---- a loop of six instructions
 
 ROUNDS, STEPS = 50000000, 300000000
 SIX = b"""      .inv tt
@@ -270,39 +290,29 @@ loop: addq r1,1,r1
       subq r4,r1,r5
       br loop
 """
-emulator = next((name for name in ("qemu-alpha", "qemu-alpha-static") if shutil.which(name)), None)
-
-head("steps a second, a loop of six instructions on one packet of 64 bytes, processor time without start-up and gate")
+begin_rates("loop: a loop of six instructions on one packet of 64 bytes; %sfive" % measured, "million steps/s")
 once([binary, "asm", "filter", write("six.s", SIX), work + "/six.plain"])
 once([binary, "prove", "filter", work + "/six.plain", work + "/six"])
 packet, rates = write("packet", file_of([bytes(64)])), {}
 for command in ("ref", "run"):
     words = [binary, command, "filter", work + "/six", packet, "--steps"]
     base = median([*words, 1], "0: out of steps")[0]
-    rates[command] = STEPS / (median([*words, STEPS], "0: out of steps")[0] - base) / 1e6
-    line(command, "%.1f" % rates[command], "M steps/s", ratio(rates["run"], rates["ref"], "ref's speed") if command == "run" else "")
-if emulator is None:
-    line("qemu-alpha: it isn't installed", "missing", "")
-else:  # the last two: subq r6,1,r6; bne r6
-    loop = load(6, ROUNDS) + [0x40203401, 0x443FF002, 0x48407723, 0x40640404, 0x40C03526, 0xF4DFFFFA, 0x201F0001, RETURN]
-    code = struct.pack("<%dI" % len(loop), *loop)
-    beside(rates, [("qemu-alpha -singlestep, counting the rounds in r6", emulated(["-singlestep"], code, bytes(64), (1, 3), STEPS)),
-                   ("qemu-alpha, the same", emulated([], code, bytes(64), (1, 13), STEPS))])
+    rates[command] = STEPS / max(median([*words, STEPS], "0: out of steps")[0] - base, 1e-4) / 1e6
+for command in rates:
+    rate_row("pcc " + command, rates[command], rates)
+# the last two: subq r6,1,r6; bne r6
+loop = load(6, ROUNDS) + [0x40203401, 0x443FF002, 0x48407723, 0x40640404, 0x40C03526, 0xF4DFFFFA, 0x201F0001, RETURN]
+code = struct.pack("<%dI" % len(loop), *loop)
+emulated_rows(rates, [("qemu-alpha -singlestep, its rounds counted in r6", ["-singlestep"], code, bytes(64), (1, 3), STEPS),
+                      ("qemu-alpha, its rounds counted in r6", [], code, bytes(64), (1, 13), STEPS)])
 if "six" in native:
-    beside(rates, [("libpcap's bpf_code, six of its instructions", native["six"][1] / native["six"][0] / 1e6)])
-
-if emulator is not None:
-    bytes_of = read(proved["checksum"])
-    code = bytes_of[16:16 + 4 * struct.unpack_from("<I", bytes_of, 12)[0]]
-    steps = counted["checksum"] / len(large)
-    head("the checksum of a packet of 65,535 bytes again and again, %d steps, likewise" % steps)
-    beside({"run": counted["checksum"] / checksum_seconds / 1e6},
-           [("qemu-alpha -singlestep", emulated(["-singlestep"], code, large[0], (1000, 4000), steps)),
-            ("qemu-alpha", emulated([], code, large[0], (10000, 20000), steps))])
+    rate_row("libpcap's bpf_code, six of its own instructions", native["six"][1] / native["six"][0] / 1e6, rates)
+else:
+    tables.missing(NO_LIBPCAP)
 
 # ---- growth
 
-head("where what is read doubles: processor time without start-up, the least of nine, beside the row before")
-failed = not growth.rows(binary, work, once, line) or failed
-sys.exit(1 if failed else 0)
+growth.rows(binary, work, once, tables)
+tables.end()
+sys.exit(1 if tables.failed else 0)
 PY

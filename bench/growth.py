@@ -37,29 +37,31 @@ def script(agents, turns):
     return (text + "".join("turn %d 1000\n" % (turn % agents) for turn in range(turns))).encode()
 
 
-# What grows, how many there are of it in the row with the most, what makes the file of so many, the words of the
+# What grows, how many there are of it in the row with the most, of what, what makes the file of so many, the words of the
 # command with the file's name in the place of IN, and how the first line begins.
 FAMILIES = [
-    ("check, facts conjoined", 26160, facts, "check tag IN", "accepted"),
-    ("check, a word of 40 parts under hypotheses", 14400, under_hypotheses, "check tag IN", "accepted"),
-    ("prove, stores one behind the other", 1000, stores, "prove filter IN OUT", "written "),
-    ("check of these", 1000, stores, "check filter OUT", "accepted"),
-    ("prove, bounds of one word", 20000, lambda n: invariant(bounds_of_one, n), "prove filter IN OUT", "written "),
-    ("prove, implications in one another, each other hypotheses", 296, lambda n: invariant(implications, n, 1),
-     "prove filter IN OUT", "written "),
-    ("bpf, loads and a return", 40, loads, "bpf IN OUT", "written "),
-    ("host, turns of 1,000 steps of 4 agents", 4000, lambda n: script(4, n), "host IN", "turn 0 0: out of steps"),
-    ("host, loads of agents with a turn each", 16, lambda n: script(n, n), "host IN", "turn 0 0: out of steps"),
+    ("check, facts", 26160, "facts", facts, "check tag IN", "accepted"),
+    ("check, a word of 40 parts under hypotheses", 14400, "hypotheses", under_hypotheses, "check tag IN", "accepted"),
+    ("prove, stores in a row", 1000, "stores", stores, "prove filter IN OUT", "written "),
+    ("check, these stores in a row", 1000, "stores", stores, "check filter OUT", "accepted"),
+    ("prove, bounds of one word", 20000, "bounds", lambda n: invariant(bounds_of_one, n), "prove filter IN OUT", "written "),
+    ("prove, nested implications, all hypotheses different", 296, "implications",
+     lambda n: invariant(implications, n, 1), "prove filter IN OUT", "written "),
+    ("bpf, loads and a return", 40, "instructions", loads, "bpf IN OUT", "written "),
+    ("host, 1,000 steps a turn, 4 agents", 4000, "turns", lambda n: script(4, n), "host IN", "turn 0 0: out of steps"),
+    ("host, loads of agents, one turn each", 16, "agents", lambda n: script(n, n), "host IN", "turn 0 0: out of steps"),
 ]
 
 
-def rows(binary, work, once, line):
-    """Prints four rows of each family, the last of which has the most; whether each command ended as it is to."""
+def rows(binary, work, once, tables):
+    """Prints the table of growth: four rows of each family, the last of which has the most."""
     sys.setrecursionlimit(100000)
-    good, out = True, work + "/growth.out"
+    tables.table("growth: cost of files that double in size; processor time without start-up, least of nine; the ratio is to a file half as large",
+                 "command and what grows", "count", "of", "file, bytes", "processor, ms", "ratio")
+    out = work + "/growth.out"
     least = lambda words: min((once(words) for _ in range(9)), key=lambda run: run[2])
     start = least([binary])[2]
-    for name, most, made, command, wanted in FAMILIES:
+    for name, most, unit, made, command, wanted in FAMILIES:
         before = None
         for count in (most // 8, most // 4, most // 2, most):
             path = work + "/growth.in"
@@ -71,11 +73,9 @@ def rows(binary, work, once, line):
             else:  # a check of what `prove` writes
                 once([binary, "prove", "filter", path, out])
                 size = os.path.getsize(out)
-            text, _, seconds, _ = least(words)
-            good = good and text.decode().startswith(wanted)
+            text, status, seconds, _ = least(words)
+            if not text.decode().startswith(wanted):
+                tables.expected("%s of %s: %d" % (wanted.strip(), name, count), text.decode().split("\n")[0] or "status %d" % status)
             seconds = max(seconds - start, 1e-5)
-            note = "" if text.decode().startswith(wanted) else "EXPECTED " + wanted
-            line("%s: %d" % (name, count), "%.2f" % (seconds * 1e3), "ms", "%.2f x that" % (seconds / before) if before else "",
-                 note or "%d bytes" % size)
+            tables.row(name, str(count), unit, str(size), "%.2f" % (seconds * 1e3), "%.2f" % (seconds / before) if before else "")
             before = seconds
-    return good

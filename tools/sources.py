@@ -1,12 +1,12 @@
-"""Reads the text of the repository: the rooms of crates.txt, first sentences of docs, and public functions with
-their clauses. A module that tools/rooms, tools/clauses and tools/measures import; it is no command."""
+"""Reads the text of the repository: the rooms of crates.txt, first sentences of docs, functions with their clauses, and
+types and constants of the code. A module that other scripts of tools/ import; it is no command."""
 from __future__ import annotations
 
 import glob
 import os
 import re
 from dataclasses import dataclass, field
-from typing import Dict, Iterator, List, Set, Tuple
+from typing import Dict, FrozenSet, Iterator, List, Optional, Set, Tuple
 
 TOP = os.path.dirname(os.path.dirname(os.path.abspath(__file__)))
 MADE = ("crates/README.md", "docs/CLAUSES.md")  # the pages that a command writes
@@ -17,6 +17,10 @@ ATTRIBUTE = re.compile(r"\s*#!?\[")
 SENTENCE_END = re.compile(r"(?<=[.!?])\s+(?=[A-Z0-9`\[(*\"])")
 CODE_SPAN = re.compile(r"`[^`]*`")
 CLAUSE = re.compile(r"^[ ]*(requires|ensures)\b *(\w*)[^{\n]*\{", re.M)
+ITEM_HEAD = re.compile(r"(?:pub(?:\([a-z]+\))? )?(?:enum|struct|trait|type|const|static) (?!fn\b)(\w+)")
+CODE_USE = re.compile(r"^(?:pub(?:\([a-z]+\))? )?use ([\w:]+?)(?:::\{([^}]*)\})?;", re.M)
+# What isn't read of an item of code: comments, quoted text, attributes.
+UNREAD = re.compile(r'//[^\n]*|"(?:\\.|[^"\\])*"|\'(?:\\.|[^\'\\])\'|^[ ]*#!?\[[^\n]*', re.M)
 
 
 @dataclass
@@ -48,16 +52,21 @@ class Clause:
 
 @dataclass(frozen=True)
 class Function:
-    """A public function: its owner is the type or trait that it is of, or empty; `implements` is the trait that an
-    `impl` gives it for, or empty; `contract` is the text of its clauses."""
+    """A function. Its owner is the type or trait that it is of, or empty; `implements` is the trait that an `impl`
+    gives it for, or empty. `arguments` are its own names in its clauses, and `contract` is the text of its clauses."""
 
     line: int
     owner: str
     implements: str
     name: str
     doc: str
+    arguments: FrozenSet[str]
     clauses: Tuple[Clause, ...]
     contract: str
+
+    @property
+    def full_name(self) -> str:
+        return "%s::%s" % (self.owner, self.name) if self.owner else self.name
 
 
 @dataclass(frozen=True)
@@ -68,6 +77,17 @@ class Trait:
     name: str
     doc: str
     ghosts: Tuple[str, ...]
+
+
+@dataclass(frozen=True)
+class Item:
+    """A type, trait or constant of a crate's code: its text, and its first line and their number, both with its doc."""
+
+    path: str
+    line: int
+    name: str
+    size: int
+    text: str
 
 
 @dataclass(frozen=True)
@@ -154,12 +174,17 @@ def head_sentence(path: str) -> str:
     return first_sentence(first_paragraph(lines[:end], "//!"))
 
 
+def attributes_above(lines: List[str], at: int) -> int:
+    """Returns how many lines of attributes are above line `at` (counted from 0)."""
+    begin = at
+    while begin > 0 and ATTRIBUTE.match(lines[begin - 1]):
+        begin -= 1
+    return at - begin
+
+
 def doc_lines(lines: List[str], at: int) -> List[str]:
     """Returns the doc comment above line `at` (counted from 0), attributes being passed over."""
-    end = at
-    while end > 0 and ATTRIBUTE.match(lines[end - 1]):
-        end -= 1
-    begin = end
+    begin = end = at - attributes_above(lines, at)
     while begin > 0 and lines[begin - 1].lstrip().startswith("///"):
         begin -= 1
     return lines[begin:end]
@@ -240,21 +265,100 @@ def is_public(block: Block, is_pub: bool, is_inner: bool, name: str, names: Set[
     return is_pub and block.of_type in names
 
 
-def public_functions(path: str, names: Set[str]) -> Iterator[Function]:
-    """Yields the public functions of a file: exported ones, public methods of exported types, and traits' methods."""
+def functions(path: str, names: Optional[Set[str]] = None) -> Iterator[Function]:
+    """Yields the functions of a file. If the names that its crate makes public are given, yields those that its users
+    see: exported ones, public methods of exported types, and traits' methods."""
     lines = read(path).split("\n")
     block = Block()
     for at, line in enumerate(lines):
         block = opened(line) if opened(line).name else Block() if line == "}" else block
-        head = re.match(r"(\s*)(pub )?fn (\w+)", line)
-        if not head or not is_public(block, bool(head.group(2)), bool(head.group(1)), head.group(3), names):
+        head = re.match(r"(\s*)(pub(?:\([a-z]+\))? )?fn (\w+)", line)
+        if not head or names is not None and not is_public(
+            block, head.group(2) == "pub ", bool(head.group(1)), head.group(3), names
+        ):
             continue
         owner = block if head.group(1) else Block()
         contract = contract_of(lines, at)
+        text = "\n".join(lines[at : head_end(lines, at) + 1])
+        arguments = re.findall(r"\b(\w+)\s*:(?!:)", text[: len(text) - len(contract)])
         yield Function(
             at + 1, owner.name, owner.of_trait if owner.of_type else "", head.group(3), doc_sentence(lines, at),
-            tuple(clauses_of(contract)), contract,
+            frozenset(arguments) | {"self", "result"}, tuple(clauses_of(contract)), contract,
         )
+
+
+def items(path: str) -> Iterator[Item]:
+    """Yields the types, traits and constants of a file of code that are in no function or block."""
+    lines = read(path).split("\n")
+    for at, head in enumerate(map(ITEM_HEAD.match, lines)):
+        if head:
+            depth, end = 0, at
+            while end < len(lines):
+                row = UNREAD.sub("", lines[end]).rstrip()
+                depth += sum(map(row.count, "([{")) - sum(map(row.count, ")]}"))
+                end += 1
+                if depth <= 0 and row.endswith((";", "}")):
+                    break
+            above = attributes_above(lines, at) + len(doc_lines(lines, at))
+            size = sum(map(bool, lines[at - above : end]))
+            yield Item(path, at - above + 1, head.group(1), size, "\n".join(lines[at:end]))
+
+
+class Items:
+    """The types, traits and constants of the crates' code, read as they are needed."""
+
+    def __init__(self, top: str) -> None:
+        self.top = top
+        self.crates: Dict[str, List[Item]] = {}
+        self.brought: Dict[str, Dict[str, Tuple[str, str]]] = {}
+
+    def of_crate(self, crate: str) -> List[Item]:
+        if crate not in self.crates:
+            self.crates[crate] = [item for path in source_files(self.top, crate) for item in items(path)]
+        return self.crates[crate]
+
+    def named(self, crate: str, name: str, path: str = "") -> List[Item]:
+        """Returns the item of this name: of the file if it has one, else of the crate, which may hand on another's."""
+        found = [item for item in self.of_crate(crate) if item.name == name]
+        if not found:
+            root = root_file(self.top, crate)
+            other, old = self.uses(root).get(name, ("", "")) if root else ("", "")
+            return self.named(other, old) if other not in ("", crate) else []
+        return [item for item in found if item.path == path] or found[:1]
+
+    def declared(self, crate: str, names: List[str]) -> List[Item]:
+        """Returns the item that a path below `specs.declared` names: its modules, its name, and parts of it."""
+        count = next((at for at, name in enumerate(names) if name[:1].isupper()), len(names))
+        inner = [name for name in names[count:] if name != "TheConstants"]
+        paths = [os.path.join(self.top, "crates", crate, "src", *names[:count]) + end for end in (".rt", "/mod.rt")]
+        path = next(filter(os.path.exists, paths), "") if count else root_file(self.top, crate)
+        return self.named(crate, inner[0], path) if inner else []
+
+    def uses(self, path: str) -> Dict[str, Tuple[str, str]]:
+        """Returns the names that the `use` lines of a file of code bring in, each with its crate and its name there."""
+        if path not in self.brought:
+            own = os.path.relpath(path, os.path.join(self.top, "crates")).split(os.sep)[0]
+            found: Dict[str, Tuple[str, str]] = {}
+            for module, many in CODE_USE.findall(read(path)):
+                head, *inner = module.split("::")
+                for name in re.findall(r"[\w:]+(?: as \w+)?", many) if many else inner[-1:]:
+                    old, _, new = name.split("::")[-1].partition(" as ")
+                    found[new or old] = (own if head == "crate" else head, old)
+            self.brought[path] = found
+        return self.brought[path]
+
+    def named_by(self, item: Item) -> Iterator[Item]:
+        """Yields the items that an item's text names."""
+        text = UNREAD.sub("", item.text)
+        text = re.sub(r"^    [A-Z]\w*", "", text, flags=re.M) if re.match(r".*\benum ", text) else text
+        own = os.path.relpath(item.path, os.path.join(self.top, "crates")).split(os.sep)[0]
+        for path in set(re.findall(r"(?:\w+::)*[A-Z]\w*", text)):
+            names = path.split("::")
+            at = next(at for at, name in enumerate(names) if name[:1].isupper())
+            crate, name = (own if names[0] == "crate" else names[0], names[at])
+            if at == 0:
+                crate, name = self.uses(item.path).get(name, (own, name))
+            yield from self.named(crate, name, item.path)
 
 
 def public_names(top: str, crate: str) -> Set[str]:
@@ -267,7 +371,7 @@ def crate_functions(top: str, crate: str) -> Iterator[Tuple[str, Function]]:
     """Yields the public functions of a crate, each with the path of its file."""
     names = public_names(top, crate)
     for path in source_files(top, crate) if names else ():
-        for function in public_functions(path, names):
+        for function in functions(path, names):
             yield path, function
 
 

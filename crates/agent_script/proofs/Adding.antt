@@ -18,12 +18,12 @@ use Rattle.agent_script.specs.declared.fault.ScriptFault.{ScriptFault}
 use Rattle.agent_script.specs.declared.fault.ScriptFault.TheVariants as faults
 use Rattle.agent_script.specs.Lines.{script_lines, line_words}
 use Rattle.agent_script.specs.Statements.{LoadView, load_named, ScriptLine, load, turn}
-use Rattle.agent_script.specs.Statements.{short_number, in_turn_range, turn_read, is_name}
+use Rattle.agent_script.specs.Statements.{short_number, in_turn_range, turn_read, is_script_name}
 use Rattle.agent_script.specs.Statements.{load_operands, turn_operands, statement_of}
 use Rattle.agent_script.specs.Scripts.{ScriptView, no_lines, load_added, turn_added, with_load}
 use Rattle.agent_script.specs.Scripts.{with_turn, with_statement, with_agents, behind_line}
 use Rattle.agent_script.specs.Scripts.{script_from, parsed_script, load_view, IsScript}
-use Rattle.agent_script.specs.Scripts.{IsFault}
+use Rattle.agent_script.specs.Scripts.{IsScriptFault}
 use Rattle.agent_script.specs.Inside.Reading.{IsFaultOf}
 
 -- ---- the steps of turns
@@ -69,7 +69,7 @@ right-loads [] = tt
 right-loads (policy ∷ []) = tt
 right-loads (policy ∷ file ∷ []) = tt
 right-loads (policy ∷ file ∷ packets ∷ []) =
-    right-if (is_name policy && is_name file && is_name packets) (load_named policy file packets)
+    right-if (is_script_name policy && is_script_name file && is_script_name packets) (load_named policy file packets)
 right-loads (policy ∷ file ∷ packets ∷ more ∷ words) = tt
 
 right-choice : (t u : Bool) (a b : Result ScriptLine ScriptFlaw) → IsRight a → IsRight b
@@ -238,7 +238,7 @@ module _ (number : ℕ) (line : List ℕ) (text behind : List (List ℕ)) (scrip
   -- the line that is wrong
   pub lines-stop : (said : Result ScriptView (ℕ × ScriptFlaw)) (fault : ScriptFault)
       → IsFaultOf (number + 1) (with_statement script (statement_of (line_words line))) fault
-      → script_from (number + 1) script text ≡ said → IsFault said fault
+      → script_from (number + 1) script text ≡ said → IsScriptFault said fault
   lines-stop said (faults.At l flaw) h is =
       let wrong : ℕ → Result ScriptView (ℕ × ScriptFlaw) = λ k. Err (k, flaw) in
       sym is ∙ one-line

@@ -17,7 +17,7 @@ use Rattle.agent_script.specs.Statements.{LoadView, ScriptLine, load, turn, stat
 use Rattle.agent_script.specs.Scripts.{ScriptView, no_lines, load_added, turn_added}
 use Rattle.agent_script.specs.Scripts.{with_statement, with_agents, behind_line}
 use Rattle.agent_script.specs.Scripts.{script_from, parsed_script}
-use Rattle.agent_script.specs.Texts.{AreLines, LineSays, LinesSay, turn_line, AreRight, SpellsScript}
+use Rattle.agent_script.specs.Texts.{AreLfLines, LineSays, LinesSay, turn_statement, LinesSpell, SpellsScript}
 use Rattle.agent_script.specs.Texts.{IsWrong, IsFirstWrong, HasFault, IsMeant}
 use Rattle.agent_script.proofs.Adding.{load-late, load-many, load-taken, turn-none, turn-taken}
 use Rattle.agent_script.proofs.Adding.{some-agents}
@@ -65,7 +65,7 @@ parted (line ∷ lines) (one ∷ first) second h =
 
 -- ---- scripts so far
 
-right-none : AreRight [] no_lines
+right-none : LinesSpell [] no_lines
 right-none = record {
   say = tt;
   few = omega arith;
@@ -73,21 +73,21 @@ right-none = record {
 }
 
 module _ (front : List (List ℕ)) (line : List ℕ) (script : ScriptView)
-    (right : AreRight front script) where
+    (right : LinesSpell front script) where
   right-load : (one : LoadView) → script.turns ≡ [] → length script.loads < MAX_LOADS
-      → LineSays line (load one) → AreRight (front ++ line ∷ []) (load_added script one)
+      → LineSays line (load one) → LinesSpell (front ++ line ∷ []) (load_added script one)
   right-load one none room says =
       let loads : List LoadView = script.loads ++ one ∷ [] in
-      let with : List Turn → List ScriptLine = λ t. map load loads ++ map turn_line t in
-      let same : (map load script.loads ++ map turn_line script.turns) ++ load one ∷ []
-      ≡ map load loads ++ map turn_line script.turns =
-      ap (λ t. (map load script.loads ++ map turn_line t) ++ load one ∷ []) none
+      let with : List Turn → List ScriptLine = λ t. map load loads ++ map turn_statement t in
+      let same : (map load script.loads ++ map turn_statement script.turns) ++ load one ∷ []
+      ≡ map load loads ++ map turn_statement script.turns =
+      ap (λ t. (map load script.loads ++ map turn_statement t) ++ load one ∷ []) none
       ∙ ap (λ l. l ++ load one ∷ []) (append-nil (map load script.loads))
       ∙ sym (map_push load script.loads one) ∙ sym (append-nil (map load loads))
       ∙ ap with (sym none) in
       record {
         say = subst (LinesSay (front ++ line ∷ [])) same
-            (say-push front (map load script.loads ++ map turn_line script.turns) line (load one)
+            (say-push front (map load script.loads ++ map turn_statement script.turns) line (load one)
             right.say says);
         few = omega (arith, length_push script.loads one, room);
         agents = All-same (λ (t : Turn). t.agent < length loads) script.turns [] none
@@ -95,18 +95,18 @@ module _ (front : List (List ℕ)) (line : List ℕ) (script : ScriptView)
       }
 
   right-turn : (agent budget : ℕ) → agent < length script.loads → LineSays line (turn agent budget)
-      → AreRight (front ++ line ∷ [])
+      → LinesSpell (front ++ line ∷ [])
       (turn_added script (record { agent = agent; budget = budget }))
   right-turn agent budget there says =
       let one : Turn = record { agent = agent; budget = budget } in
-      let same : (map load script.loads ++ map turn_line script.turns) ++ turn_line one ∷ []
-      ≡ map load script.loads ++ map turn_line (script.turns ++ one ∷ []) =
-      append_assoc (map load script.loads) (map turn_line script.turns) (turn_line one ∷ [])
-      ∙ ap (λ l. map load script.loads ++ l) (sym (map_push turn_line script.turns one)) in
+      let same : (map load script.loads ++ map turn_statement script.turns) ++ turn_statement one ∷ []
+      ≡ map load script.loads ++ map turn_statement (script.turns ++ one ∷ []) =
+      append_assoc (map load script.loads) (map turn_statement script.turns) (turn_statement one ∷ [])
+      ∙ ap (λ l. map load script.loads ++ l) (sym (map_push turn_statement script.turns one)) in
       record {
         say = subst (LinesSay (front ++ line ∷ [])) same
-            (say-push front (map load script.loads ++ map turn_line script.turns) line
-            (turn_line one) right.say says);
+            (say-push front (map load script.loads ++ map turn_statement script.turns) line
+            (turn_statement one) right.say says);
         few = right.few;
         agents = All-push (λ (t : Turn). t.agent < length script.loads) script.turns one
             right.agents there;
@@ -115,7 +115,7 @@ module _ (front : List (List ℕ)) (line : List ℕ) (script : ScriptView)
   -- what comes of the line: it is wrong, or there is one more line that isn't
   abbrev IsStep : Result ScriptView ScriptFlaw → Type 0
   IsStep (Err flaw) = IsWrong script line flaw
-  IsStep (Ok new) = AreRight (front ++ line ∷ []) new
+  IsStep (Ok new) = LinesSpell (front ++ line ∷ []) new
 
   step-load : (one : LoadView) (late many : Bool) → nat_lt 0 (length script.turns) ≡ late
       → nat_le MAX_LOADS (length script.loads) ≡ many → LineSays line (load one)
@@ -180,24 +180,24 @@ module _ (text : List ℕ) where
 
   -- no more lines
   ends-by : (front : List (List ℕ)) (script : ScriptView) (loads : List LoadView)
-      → script.loads ≡ loads → AreLines text front → AreRight front script
+      → script.loads ≡ loads → AreLfLines text front → LinesSpell front script
       → IsMeant text (with_agents script loads)
   ends-by front script [] is of right =
       let turns : script.turns ≡ [] = no-turns script.loads script.turns is right.agents in
-      let said : map load script.loads ++ map turn_line script.turns ≡ [] =
-      ap (λ l. map load l ++ map turn_line script.turns) is ∙ ap (map turn_line) turns in
+      let said : map load script.loads ++ map turn_statement script.turns ≡ [] =
+      ap (λ l. map load l ++ map turn_statement script.turns) is ∙ ap (map turn_statement) turns in
       let none : front ≡ [] = say-nothing front (subst (LinesSay front) said right.say) in
-      (refl, subst (AreLines text) none of)
+      (refl, subst (AreLfLines text) none of)
   ends-by front script (one ∷ loads) is of right =
       let count : length script.loads ≡ length (one ∷ loads) = ap length is in
       record { lines = front; of = of; right = right; some = omega (arith, count) }
 
   -- a line, and what comes of those behind it
   behind-by : (front : List (List ℕ)) (line : List ℕ) (lines : List (List ℕ))
-      (script : ScriptView) (right : AreRight front script)
-      → AreLines text (front ++ line ∷ lines)
+      (script : ScriptView) (right : LinesSpell front script)
+      → AreLfLines text (front ++ line ∷ lines)
       → (rest : ScriptView → Result ScriptView (ℕ × ScriptFlaw))
-      → ((new : ScriptView) → AreRight (front ++ line ∷ []) new → IsMeant text (rest new))
+      → ((new : ScriptView) → LinesSpell (front ++ line ∷ []) new → IsMeant text (rest new))
       → (r : Result ScriptView ScriptFlaw) → IsStep front line script right r
       → IsMeant text (behind_line (suc (length front)) rest r)
   behind-by front line lines script right of rest more (Err flaw) h =
@@ -213,15 +213,15 @@ module _ (text : List ℕ) where
       })
   behind-by front line lines script right of rest more (Ok new) h = more new h
 
-  meant-from : (lines front : List (List ℕ)) (script : ScriptView) → AreLines text (front ++ lines)
-      → AreRight front script → IsMeant text (script_from (suc (length front)) script lines)
+  meant-from : (lines front : List (List ℕ)) (script : ScriptView) → AreLfLines text (front ++ lines)
+      → LinesSpell front script → IsMeant text (script_from (suc (length front)) script lines)
   meant-from [] front script of right =
-      ends-by front script script.loads refl (subst (AreLines text) (append-nil front) of) right
+      ends-by front script script.loads refl (subst (AreLfLines text) (append-nil front) of) right
   meant-from (line ∷ lines) front script of right =
       let next : suc (length (front ++ line ∷ [])) ≡ suc (suc (length front)) =
       omega (arith, length_push front line) in
-      let behind : AreLines text ((front ++ line ∷ []) ++ lines) =
-      subst (AreLines text) (sym (append_assoc front (line ∷ []) lines)) of in
+      let behind : AreLfLines text ((front ++ line ∷ []) ++ lines) =
+      subst (AreLfLines text) (sym (append_assoc front (line ∷ []) lines)) of in
       behind-by front line lines script right of
       (λ said. script_from (suc (suc (length front))) said lines)
       (λ new h. subst (λ k. IsMeant text (script_from k new lines)) next
@@ -261,7 +261,7 @@ loads-go (one ∷ loads) before (line ∷ lines) behind n says few =
     (append_assoc before (one ∷ []) loads)
 
 turns-go : (loads : List LoadView) (turns before : List Turn) (lines behind : List (List ℕ))
-    (n : ℕ) → LinesSay lines (map turn_line turns)
+    (n : ℕ) → LinesSay lines (map turn_statement turns)
     → All (λ (one : Turn). one.agent < length loads) turns
     → script_from n (record { loads = loads; turns = before }) (lines ++ behind)
     ≡ script_from (n + length lines) (record { loads = loads; turns = before ++ turns }) behind
@@ -276,7 +276,7 @@ turns-go loads (one ∷ turns) before (line ∷ lines) behind n says there =
     let script : ScriptView = record { loads = loads; turns = before } in
     let taken : with_statement script (statement_of (line_words line))
     ≡ Ok (turn_added script one) =
-    ap (with_statement script) (says-line line (turn_line one) says.0)
+    ap (with_statement script) (says-line line (turn_statement one) says.0)
     ∙ turn-taken script one.agent one.budget
     (All-head (λ (t : Turn). t.agent < length loads) one turns there) in
     let count : suc n + length lines ≡ n + length (line ∷ lines) = omega arith in
@@ -289,10 +289,10 @@ turns-go loads (one ∷ turns) before (line ∷ lines) behind n says there =
     behind) (append_assoc before (one ∷ []) turns)
 
 -- lines that aren't wrong are in the script
-right-goes : (lines behind : List (List ℕ)) (script : ScriptView) → AreRight lines script
+right-goes : (lines behind : List (List ℕ)) (script : ScriptView) → LinesSpell lines script
     → script_from 1 no_lines (lines ++ behind) ≡ script_from (suc (length lines)) script behind
 right-goes lines behind script right =
-    let p = parted lines (map load script.loads) (map turn_line script.turns) right.say in
+    let p = parted lines (map load script.loads) (map turn_statement script.turns) right.say in
     let loaded : ScriptView = record { loads = script.loads; turns = [] } in
     let count : 1 + length p.front + length p.back ≡ suc (length lines) =
     let whole : length lines ≡ length (p.front ++ p.back) = ap length p.is in

@@ -15,7 +15,7 @@ use Rattle.agent_script.specs.declared.fault.ScriptFlaw.{ScriptFlaw}
 use Rattle.agent_script.specs.declared.fault.ScriptFlaw.TheVariants as flaws
 use Rattle.agent_script.specs.Lines.{line_words}
 use Rattle.agent_script.specs.Statements.{LoadView, load_named, ScriptLine, load, turn}
-use Rattle.agent_script.specs.Statements.{short_number, in_turn_range, turn_read, is_name}
+use Rattle.agent_script.specs.Statements.{short_number, in_turn_range, turn_read, is_script_name}
 use Rattle.agent_script.specs.Statements.{load_operands, turn_operands, statement_of}
 use Rattle.agent_script.specs.Scripts.{ScriptView}
 use Rattle.agent_script.specs.Texts.{AreWords, IsName, IsShortNumber, WordsSay, LineSays, IsWrong}
@@ -61,13 +61,13 @@ says-range b low high =
 
 -- ---- names
 
-name-says : (word : List ℕ) → is_name word ≡ true → IsName word
+name-says : (word : List ℕ) → is_script_name word ≡ true → IsName word
 name-says [] e = absurd (false≢true e)
 name-says (b ∷ bs) e =
     let p = and_parts (not (length (b ∷ bs) == 0)) (is_utf8 (b ∷ bs)) e in
     (omega arith, IsUtf8-from_is_utf8 (b ∷ bs) p.1)
 
-says-name : (word : List ℕ) → IsName word → is_name word ≡ true
+says-name : (word : List ℕ) → IsName word → is_script_name word ≡ true
 says-name word h =
     right-name word
     (ne_eqb (length word) 0 (λ e. let none : length word ≡ 0 = e in omega (arith, none, h.0))) h.1
@@ -75,12 +75,12 @@ says-name word h =
 -- ---- what is said
 
 loads-by : (policy file packets : List ℕ) (said : ScriptLine) (t : Bool)
-    → (is_name policy && is_name file && is_name packets) ≡ t
+    → (is_script_name policy && is_script_name file && is_script_name packets) ≡ t
     → cond t (Ok (load (load_named policy file packets))) (Err flaws.Form) ≡ Ok said
     → WordsSay (codes "load" ∷ policy ∷ file ∷ packets ∷ []) said
 loads-by policy file packets said true t e =
-    let p = and_parts (is_name policy && is_name file) (is_name packets) t in
-    let q = and_parts (is_name policy) (is_name file) p.0 in
+    let p = and_parts (is_script_name policy && is_script_name file) (is_script_name packets) t in
+    let q = and_parts (is_script_name policy) (is_script_name file) p.0 in
     let same : load (load_named policy file packets) ≡ said = cc in
     subst (λ s. WordsSay (codes "load" ∷ policy ∷ file ∷ packets ∷ []) s) same
     (refl, name-says policy q.0, name-says file q.1, name-says packets p.1)
@@ -92,7 +92,7 @@ loads-say [] said e = absurd cc
 loads-say (policy ∷ []) said e = absurd cc
 loads-say (policy ∷ file ∷ []) said e = absurd cc
 loads-say (policy ∷ file ∷ packets ∷ []) said e =
-    loads-by policy file packets said (is_name policy && is_name file && is_name packets) refl e
+    loads-by policy file packets said (is_script_name policy && is_script_name file && is_script_name packets) refl e
 loads-say (policy ∷ file ∷ packets ∷ more ∷ rest) said e = absurd cc
 
 turns-by : (a n : List ℕ) (said : ScriptLine) (x y : Option ℕ) → short_number a ≡ x
@@ -175,7 +175,7 @@ formed-loads [] = refl
 formed-loads (policy ∷ []) = refl
 formed-loads (policy ∷ file ∷ []) = refl
 formed-loads (policy ∷ file ∷ packets ∷ []) =
-    formed-if (is_name policy && is_name file && is_name packets) (load_named policy file packets)
+    formed-if (is_script_name policy && is_script_name file && is_script_name packets) (load_named policy file packets)
 formed-loads (policy ∷ file ∷ packets ∷ more ∷ rest) = refl
 
 formed-read : (x y : Option ℕ) → IsFormed (turn_read x y)

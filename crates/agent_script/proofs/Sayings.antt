@@ -17,7 +17,7 @@ use Rattle.agent_script.specs.declared.statement.Statement as code
 use Rattle.agent_script.specs.declared.fault.ScriptFlaw.{ScriptFlaw}
 use Rattle.agent_script.specs.declared.fault.ScriptFlaw.TheVariants as flaws
 use Rattle.agent_script.specs.Statements.{load_named, ScriptLine, load, turn}
-use Rattle.agent_script.specs.Statements.{short_number, is_name}
+use Rattle.agent_script.specs.Statements.{short_number, is_script_name}
 use Rattle.agent_script.specs.Statements.{load_operands, turn_operands, statement_of}
 use Rattle.agent_script.specs.Inside.Reading.{IsStatement, IsStatementRead}
 
@@ -52,14 +52,14 @@ short-is word o l e = sym e
 
 -- ---- names
 
-pub right-name : (word : List ℕ) → (length word == 0) ≡ false → IsUtf8 word → is_name word ≡ true
+pub right-name : (word : List ℕ) → (length word == 0) ≡ false → IsUtf8 word → is_script_name word ≡ true
 right-name word some h =
     and_from (not (length word == 0)) (is_utf8 word) (ap not some) (is_utf8-from_IsUtf8 word h)
 
-pub no-name : (word : List ℕ) → (length word == 0) ≡ true → is_name word ≡ false
+pub no-name : (word : List ℕ) → (length word == 0) ≡ true → is_script_name word ≡ false
 no-name word none = and_left (not (length word == 0)) (is_utf8 word) (ap not none)
 
-pub wrong-name : (word : List ℕ) → (IsUtf8 word → ⊥) → is_name word ≡ false
+pub wrong-name : (word : List ℕ) → (IsUtf8 word → ⊥) → is_script_name word ≡ false
 wrong-name word h =
     and_right (not (length word == 0)) (is_utf8 word)
     (false_from_ne_true (is_utf8 word) (λ e. h (IsUtf8-from_is_utf8 word e)))
@@ -67,37 +67,37 @@ wrong-name word h =
 -- ---- loads
 
 module _ (policy file packets : List ℕ) where
-  loads-if : (t : Bool) → (is_name policy && is_name file && is_name packets) ≡ t
+  loads-if : (t : Bool) → (is_script_name policy && is_script_name file && is_script_name packets) ≡ t
       → load_operands (policy ∷ file ∷ packets ∷ []) ≡ cond t
       (Ok (load (load_named policy file packets))) (Err flaws.Form)
   loads-if t e =
       ap (λ (b : Bool). cond b (Ok (load (load_named policy file packets))) (Err flaws.Form)) e
 
-  pub wrong-policy : is_name policy ≡ false
+  pub wrong-policy : is_script_name policy ≡ false
       → load_operands (policy ∷ file ∷ packets ∷ []) ≡ Err flaws.Form
   wrong-policy h =
       loads-if false
-      (and_left (is_name policy && is_name file) (is_name packets)
-      (and_left (is_name policy) (is_name file) h))
+      (and_left (is_script_name policy && is_script_name file) (is_script_name packets)
+      (and_left (is_script_name policy) (is_script_name file) h))
 
-  pub wrong-file : is_name file ≡ false
+  pub wrong-file : is_script_name file ≡ false
       → load_operands (policy ∷ file ∷ packets ∷ []) ≡ Err flaws.Form
   wrong-file h =
       loads-if false
-      (and_left (is_name policy && is_name file) (is_name packets)
-      (and_right (is_name policy) (is_name file) h))
+      (and_left (is_script_name policy && is_script_name file) (is_script_name packets)
+      (and_right (is_script_name policy) (is_script_name file) h))
 
-  pub wrong-packets : is_name packets ≡ false
+  pub wrong-packets : is_script_name packets ≡ false
       → load_operands (policy ∷ file ∷ packets ∷ []) ≡ Err flaws.Form
-  wrong-packets h = loads-if false (and_right (is_name policy && is_name file) (is_name packets) h)
+  wrong-packets h = loads-if false (and_right (is_script_name policy && is_script_name file) (is_script_name packets) h)
 
-  pub right-names : (p f k : List ℕ) → is_name policy ≡ true → is_name file ≡ true
-      → is_name packets ≡ true → p ≡ policy → f ≡ file → k ≡ packets
+  pub right-names : (p f k : List ℕ) → is_script_name policy ≡ true → is_script_name file ≡ true
+      → is_script_name packets ≡ true → p ≡ policy → f ≡ file → k ≡ packets
       → load_operands (policy ∷ file ∷ packets ∷ []) ≡ Ok (load (load_named p f k))
   right-names p f k a b c ep ef ek =
       loads-if true
-      (and_from (is_name policy && is_name file) (is_name packets)
-      (and_from (is_name policy) (is_name file) a b) c)
+      (and_from (is_script_name policy && is_script_name file) (is_script_name packets)
+      (and_from (is_script_name policy) (is_script_name file) a b) c)
       ∙ ap (λ x. Ok (load (load_named x file packets))) (sym ep)
       ∙ ap (λ x. Ok (load (load_named p x packets))) (sym ef)
       ∙ ap (λ x. Ok (load (load_named p f x))) (sym ek)

@@ -6,27 +6,27 @@ use Rattle.std.proofs.lemmas.Bool.{false≢true, eqb-true}
 use Rattle.agent_script.specs.Lines.{before_first, script_lines, parts_words, begins_parted}
 use Rattle.agent_script.specs.Lines.{line_words}
 use Rattle.agent_script.specs.Inside.Words.{HasNoEnd, HasNoBlank, IsBlank}
-use Rattle.agent_script.specs.Texts.{AreLines, IsGap, AreWords}
+use Rattle.agent_script.specs.Texts.{AreLfLines, IsGap, AreWords}
 use Rattle.agent_script.proofs.Cuts.{no_end_front, one_line, no_blank_front, blank_front, bare_word}
 
 -- ---- lines
 
 -- a byte in front of the first line
 line-more : (b : ℕ) (bs : List ℕ) (lines : List (List ℕ)) → (b == 10) ≡ false
-    → AreLines bs lines → AreLines (b ∷ bs) (before_first b lines)
+    → AreLfLines bs lines → AreLfLines (b ∷ bs) (before_first b lines)
 line-more b bs [] h none = ((h, tt), inl (refl, ap (λ l. b ∷ l) none, omega arith))
 line-more b bs (line ∷ lines) h (plain, inl (last, is, some)) =
     ((h, plain), inl (last, ap (λ l. b ∷ l) is, omega arith))
 line-more b bs (line ∷ lines) h (plain, inr (rest, is, at)) =
     ((h, plain), inr (rest, ap (λ l. b ∷ l) is, at))
 
-lines-by : (b : ℕ) (bs : List ℕ) (t : Bool) → (b == 10) ≡ t → AreLines bs (script_lines bs)
-    → AreLines (b ∷ bs) (cond t ([] ∷ script_lines bs) (before_first b (script_lines bs)))
+lines-by : (b : ℕ) (bs : List ℕ) (t : Bool) → (b == 10) ≡ t → AreLfLines bs (script_lines bs)
+    → AreLfLines (b ∷ bs) (cond t ([] ∷ script_lines bs) (before_first b (script_lines bs)))
 lines-by b bs true e at = (tt, inr (bs, ap (λ c. c ∷ bs) (eqb-true b 10 e), at))
 lines-by b bs false e at = line-more b bs (script_lines bs) e at
 
 -- the lines of a text are its lines
-pub are-lines : (text : List ℕ) → AreLines text (script_lines text)
+pub are-lines : (text : List ℕ) → AreLfLines text (script_lines text)
 are-lines [] = refl
 are-lines (b ∷ bs) = lines-by b bs (b == 10) refl (are-lines bs)
 
@@ -37,7 +37,7 @@ line-front (b ∷ bs) rest h =
     no_end_front b (bs ++ 10 ∷ rest) h.0 ∙ ap (before_first b) (line-front bs rest h.1)
 
 -- and it has no others
-pub lines-only : (lines : List (List ℕ)) (text : List ℕ) → AreLines text lines
+pub lines-only : (lines : List (List ℕ)) (text : List ℕ) → AreLfLines text lines
     → script_lines text ≡ lines
 lines-only [] text none = ap script_lines none
 lines-only (line ∷ lines) text (plain, inl (last, is, some)) =

@@ -97,11 +97,11 @@ pub record IsScript (script : ScriptView) : Type 0 where
   pub budgets : All (λ one. (1 ≤ one.budget) × (one.budget ≤ MAX_TURN)) script.turns
 
 -- what is said is this fault; want of memory says nothing
-abbrev pub IsFault : Result ScriptView (ℕ × ScriptFlaw) → ScriptFault → Type 0
-IsFault said (faults.At line flaw) = said ≡ Err (line, flaw)
-IsFault said faults.Memory = Unit {0}
+abbrev pub IsScriptFault : Result ScriptView (ℕ × ScriptFlaw) → ScriptFault → Type 0
+IsScriptFault said (faults.At line flaw) = said ≡ Err (line, flaw)
+IsScriptFault said faults.Memory = Unit {0}
 
 -- an answer is what the text says
 abbrev pub IsScriptRead : List ℕ → Result Script ScriptFault → Type 0
 IsScriptRead text (Ok script) = parsed_script text ≡ Ok (script_view script)
-IsScriptRead text (Err fault) = IsFault (parsed_script text) fault
+IsScriptRead text (Err fault) = IsScriptFault (parsed_script text) fault

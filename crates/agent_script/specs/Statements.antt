@@ -40,13 +40,13 @@ turn_read None budget = Err flaws.Form
 turn_read (Some agent) None = Err flaws.Form
 
 -- a name: one or more bytes that are UTF-8
-abbrev pub is_name : List ℕ → Bool
-is_name word = not (length word == 0) && is_utf8 word
+abbrev pub is_script_name : List ℕ → Bool
+is_script_name word = not (length word == 0) && is_utf8 word
 
 -- what stands behind `load`
 abbrev pub load_operands : List (List ℕ) → Result ScriptLine ScriptFlaw
 load_operands (policy ∷ file ∷ packets ∷ []) =
-    if is_name policy && is_name file && is_name packets
+    if is_script_name policy && is_script_name file && is_script_name packets
     then Ok (load (load_named policy file packets))
     else Err flaws.Form
 load_operands other = Err flaws.Form

@@ -18,12 +18,12 @@ use Rattle.agent_script.specs.Scripts.{ScriptView}
 
 -- the lines of a text: none has an LF in it, and one ends each, which the last may lack where it
 -- isn't empty
-abbrev pub AreLines : List ℕ → List (List ℕ) → Type 0
-AreLines text [] = text ≡ []
-AreLines text (line ∷ lines) =
+abbrev pub AreLfLines : List ℕ → List (List ℕ) → Type 0
+AreLfLines text [] = text ≡ []
+AreLfLines text (line ∷ lines) =
     AllByRecursion (λ b. (b == 10) ≡ false) line
     × (((lines ≡ []) × (text ≡ line) × (0 < length line))
-    ⊎ ((rest : List ℕ) × (text ≡ line ++ 10 ∷ rest) × AreLines rest lines))
+    ⊎ ((rest : List ℕ) × (text ≡ line ++ 10 ∷ rest) × AreLfLines rest lines))
 
 -- what parts two words: one or more blanks and tabs
 abbrev pub IsGap : List ℕ → Type 0
@@ -72,21 +72,21 @@ LinesSay (line ∷ lines) (said ∷ more) = LineSays line said × LinesSay lines
 -- ---- scripts
 
 -- the line that a turn is
-abbrev pub turn_line : Turn → ScriptLine
-turn_line one = turn one.agent one.budget
+abbrev pub turn_statement : Turn → ScriptLine
+turn_statement one = turn one.agent one.budget
 
 -- Lines that aren't wrong: they say these loads, of which there are at most 16, and then these turns,
 -- of agents that are loaded.
-pub record AreRight (lines : List (List ℕ)) (script : ScriptView) : Type 0 where
-  pub say : LinesSay lines (map load script.loads ++ map turn_line script.turns)
+pub record LinesSpell (lines : List (List ℕ)) (script : ScriptView) : Type 0 where
+  pub say : LinesSay lines (map load script.loads ++ map turn_statement script.turns)
   pub few : length script.loads ≤ MAX_LOADS
   pub agents : All (λ one. one.agent < length script.loads) script.turns
 
 -- The text is this script: no line is wrong, and one is a load.
 pub record SpellsScript (text : List ℕ) (script : ScriptView) : Type 0 where
   pub lines : List (List ℕ)
-  pub of : AreLines text lines
-  pub right : AreRight lines script
+  pub of : AreLfLines text lines
+  pub right : LinesSpell lines script
   pub some : 0 < length script.loads
 
 -- ---- faults
@@ -121,10 +121,10 @@ pub record IsFirstWrong (text : List ℕ) (number : ℕ) (flaw : ScriptFlaw) : T
   pub front : List (List ℕ)
   pub line : List ℕ
   pub behind : List (List ℕ)
-  pub of : AreLines text (front ++ line ∷ behind)
+  pub of : AreLfLines text (front ++ line ∷ behind)
   pub at : number ≡ suc (length front)
   pub script : ScriptView
-  pub right : AreRight front script
+  pub right : LinesSpell front script
   pub wrong : IsWrong script line flaw
 
 -- what is wrong with a text: its first wrong line; or it has no line, so that nothing loads an agent

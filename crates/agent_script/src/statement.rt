@@ -1,7 +1,7 @@
 //! What one line of a script says.
 
 ghost use Rattle.std.specs.Prelude.{◌≡◌, ◌∷◌, [], true, false, IfSome, IfNone};
-ghost use Rattle.agent_script.specs.Statements.{is_name, load_operands, turn_operands};
+ghost use Rattle.agent_script.specs.Statements.{is_script_name, load_operands, turn_operands};
 ghost use Rattle.agent_script.specs.Statements.{short_number, in_turn_range, statement_of};
 ghost use Rattle.agent_script.specs.Lines.{line_words};
 ghost use Rattle.agent_script.specs.Inside.Reading.{IsStatement, IsStatementRead};
@@ -60,8 +60,8 @@ fn turn_steps(word: &[u8]) -> Option<u64>
 /// The word as a name.
 fn name_of(word: &[u8]) -> Option<&str>
     ensures some { IfSome result (λ name. name.now ≡ word.now) }
-    ensures right { IfSome result (λ _. is_name word.now ≡ true) }
-    ensures wrong { IfNone result (is_name word.now ≡ false) }
+    ensures right { IfSome result (λ _. is_script_name word.now ≡ true) }
+    ensures wrong { IfNone result (is_script_name word.now ≡ false) }
 {
     if word.is_empty() {
         return None;

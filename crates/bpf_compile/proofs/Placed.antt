@@ -11,7 +11,7 @@ use Rattle.bpf_words.specs.Programs.{bpf_op}
 use Rattle.bpf_words.proofs.Soundness.{drop-at}
 use Rattle.bpf_code.specs.Blocks.{end_place}
 use Rattle.bpf_condition.specs.Invariants.{packet_invariant, end_invariant, invariants_of, invariants_from}
-use Rattle.bpf_compile.specs.Inside.Ids.{terms_of, AreFirstIds}
+use Rattle.bpf_compile.specs.Inside.Ids.{inv_terms, AreFirstIds}
 
 known-both : (t : TableView) (ids more : List (ℕ × ℕ))
     → AllByRecursion (λ (inv : ℕ × ℕ). IsKnown t inv.1) ids → AllByRecursion (λ (inv : ℕ × ℕ). IsKnown t inv.1) more
@@ -28,19 +28,19 @@ pub more-ids : (t : TableView) (program : List Bpf) (i start at packet last : �
 more-ids t program i start at packet last b op ids mid all found known first ends start-is at-is mid-is all-is before =
     let two : List (ℕ × ℕ) = (start, packet) ∷ (at, last) ∷ [] in
     let long : all ≡ ids ++ two = all-is ∙ ap (λ l. l ++ ((at, last) ∷ [])) mid-is ∙ append_assoc ids ((start, packet) ∷ []) ((at, last) ∷ []) in
-    let block : id_trees t two ≡ terms_of (invariants_of i b (bpf_op b.code)) =
-    (λ j. (start-is j, first.is j) ∷ (at-is j, ends.is j) ∷ []) ∙ ap (λ o. terms_of (invariants_of i b o)) (sym known) in
+    let block : id_trees t two ≡ inv_terms (invariants_of i b (bpf_op b.code)) =
+    (λ j. (start-is j, first.is j) ∷ (at-is j, ends.is j) ∷ []) ∙ ap (λ o. inv_terms (invariants_of i b o)) (sym known) in
     let rest = invariants_from (i + 1) (drop (i + 1) program) in
     let next : i + 1 ≡ suc i = omega arith in
-    let from : terms_of (invariants_of i b (bpf_op b.code)) ++ terms_of rest ≡ terms_of (invariants_from i (drop i program)) =
+    let from : inv_terms (invariants_of i b (bpf_op b.code)) ++ inv_terms rest ≡ inv_terms (invariants_from i (drop i program)) =
     sym (map-append (λ p. (p.0, encoding_in machine_context p.1)) (invariants_of i b (bpf_op b.code)) rest)
-    ∙ ap (λ m. terms_of (invariants_of i b (bpf_op b.code) ++ invariants_from m (drop (i + 1) program))) next
-    ∙ ap (λ l. terms_of (invariants_from i l)) (sym (drop-at program i b found)) in
+    ∙ ap (λ m. inv_terms (invariants_of i b (bpf_op b.code) ++ invariants_from m (drop (i + 1) program))) next
+    ∙ ap (λ l. inv_terms (invariants_from i l)) (sym (drop-at program i b found)) in
     record {
       known = subst (λ l. AllByRecursion (λ (inv : ℕ × ℕ). IsKnown t inv.1) l) (sym long) (known-both t ids two before.known (first.known, (ends.known, tt)));
-      trees = ap (λ l. id_trees t l ++ terms_of rest) long ∙ ap (λ l. l ++ terms_of rest) (map-append (λ (p : ℕ × ℕ). (p.0, tree_at t p.1)) ids two)
-          ∙ append_assoc (id_trees t ids) (id_trees t two) (terms_of rest)
-          ∙ ap (λ l. id_trees t ids ++ (l ++ terms_of rest)) block ∙ ap (λ l. id_trees t ids ++ l) from ∙ before.trees;
+      trees = ap (λ l. id_trees t l ++ inv_terms rest) long ∙ ap (λ l. l ++ inv_terms rest) (map-append (λ (p : ℕ × ℕ). (p.0, tree_at t p.1)) ids two)
+          ∙ append_assoc (id_trees t ids) (id_trees t two) (inv_terms rest)
+          ∙ ap (λ l. id_trees t ids ++ (l ++ inv_terms rest)) block ∙ ap (λ l. id_trees t ids ++ l) from ∙ before.trees;
     }
 
 -- the same op, by the instruction that is looked up

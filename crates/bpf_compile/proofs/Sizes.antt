@@ -19,7 +19,7 @@ use Rattle.proof_container.proofs.FieldLaws.{length-field_bytes}
 use Rattle.proof_container.specs.declared.container.Head.{Head}
 use Rattle.proof_container.specs.declared.container.Head.TheVariants.{Number, Digest}
 use Rattle.proof_container.specs.Versions.{IsHead, lemmas_size}
-use Rattle.bpf_condition.specs.Parts.{HoldsParts, subtrees, node_count}
+use Rattle.bpf_condition.specs.Parts.{HoldsParts, subtrees, subtree_count}
 use Rattle.bpf_condition.proofs.FewEntries.{entries-few}
 use Rattle.bpf_condition.proofs.Subtrees.{subtrees-hold, root-listed, length-subtrees, holds-both}
 use Rattle.bpf_words.specs.declared.insn.Bpf.{Bpf}
@@ -36,7 +36,7 @@ pub held-parts : HoldsParts held_terms
 held-parts = holds-both (subtrees (term_of packet_invariant)) (subtrees (term_of filter_post))
     (subtrees-hold (term_of packet_invariant)) (subtrees-hold (term_of filter_post))
 
-nodes-few : nat_le (node_count (term_of packet_invariant) + node_count (term_of filter_post)) 1000 ≡ true
+nodes-few : nat_le (subtree_count (term_of packet_invariant) + subtree_count (term_of filter_post)) 1000 ≡ true
 unfolding machine_context machine_names
 nodes-few = refl
 
@@ -45,7 +45,7 @@ held-few =
     let all = length-append (subtrees (term_of packet_invariant)) (subtrees (term_of filter_post)) in
     let first = length-subtrees (term_of packet_invariant) in
     let last = length-subtrees (term_of filter_post) in
-    let few = leb-true (node_count (term_of packet_invariant) + node_count (term_of filter_post)) 1000 nodes-few in
+    let few = leb-true (subtree_count (term_of packet_invariant) + subtree_count (term_of filter_post)) 1000 nodes-few in
     omega (arith, all, first, last, few)
 
 abbrev IsListed : Form → Type 0

@@ -14,7 +14,7 @@ use Rattle.proof_container.proofs.Walks.{listed-left, listed-right, listed-last}
 use Rattle.prover_class.specs.NormalForms.{normalized}
 use Rattle.prover_class.specs.Parts.{part_proof}
 use Rattle.bpf_condition.specs.PartForms.{part_forms}
-use Rattle.bpf_condition.specs.Parts.{HoldsParts, subtrees, node_count}
+use Rattle.bpf_condition.specs.Parts.{HoldsParts, subtrees, subtree_count}
 use Rattle.bpf_condition.proofs.Subtrees.{subtrees-hold, root-listed, length-subtrees, holds-both, holds-one_more}
 
 -- the tree, if there is one, else the proof of truth
@@ -42,7 +42,7 @@ held_for (A ∷ l) = (subtrees (form_encoding A) ++ subtrees (class_proof A)) ++
 -- how many these are
 unfoldable pub held_count : List Form → ℕ
 held_count [] = 4
-held_count (A ∷ l) = node_count (form_encoding A) + node_count (class_proof A) + held_count l
+held_count (A ∷ l) = subtree_count (form_encoding A) + subtree_count (class_proof A) + held_count l
 
 pub later : (t u : Tree) (ts : List Tree) → is_emitted u ts ≡ true → is_emitted u (t ∷ ts) ≡ true
 later t u ts h = listed-right u (t ∷ []) ts h

@@ -5,7 +5,7 @@ use Rattle.term_table.specs.Equality.{tree_eq}
 use Rattle.term_table.proofs.Equality.{tree_eq-true}
 use Rattle.proof_container.specs.Postorder.{is_emitted, HasPartsFirst}
 use Rattle.proof_container.proofs.Walks.{listed-append, listed-left, listed-right, listed-last}
-use Rattle.bpf_condition.specs.Parts.{HoldsParts, subtrees, node_count}
+use Rattle.bpf_condition.specs.Parts.{HoldsParts, subtrees, subtree_count}
 use Rattle.bpf_condition.proofs.FewEntries.{AreAmong, by_either}
 
 -- parts stay parts in a list that has more
@@ -65,11 +65,11 @@ subtrees-hold (App f a) = two-hold (App f a) f a (subtrees-hold f) (subtrees-hol
 subtrees-hold (TApp p a) = two-hold (TApp p a) p a (subtrees-hold p) (subtrees-hold a) (λ l r. (l, r))
 subtrees-hold (Pi a b) = two-hold (Pi a b) a b (subtrees-hold a) (subtrees-hold b) (λ l r. (l, r))
 
-two-count : (t a b : Tree) → length (subtrees a) ≡ node_count a → length (subtrees b) ≡ node_count b
-    → length (t ∷ (subtrees a ++ subtrees b)) ≡ suc (node_count a + node_count b)
+two-count : (t a b : Tree) → length (subtrees a) ≡ subtree_count a → length (subtrees b) ≡ subtree_count b
+    → length (t ∷ (subtrees a ++ subtrees b)) ≡ suc (subtree_count a + subtree_count b)
 two-count t a b h g = let apart = length-append (subtrees a) (subtrees b) in omega (arith, h, g, apart)
 
-pub length-subtrees : (t : Tree) → length (subtrees t) ≡ node_count t
+pub length-subtrees : (t : Tree) → length (subtrees t) ≡ subtree_count t
 unfolding subtrees
 length-subtrees (Var n) = refl
 length-subtrees (Con c) = refl

@@ -15,10 +15,10 @@ subtrees (TApp p a) = TApp p a ∷ (subtrees p ++ subtrees a)
 subtrees (Pi a b) = Pi a b ∷ (subtrees a ++ subtrees b)
 subtrees t = t ∷ []
 
--- how many nodes the tree has
-abbrev pub node_count : Tree → ℕ
-node_count (App f a) = suc (node_count f + node_count a)
-node_count (Lam b) = suc (node_count b)
-node_count (TApp p a) = suc (node_count p + node_count a)
-node_count (Pi a b) = suc (node_count a + node_count b)
-node_count t = 1
+-- how many these are
+abbrev pub subtree_count : Tree → ℕ
+subtree_count (App f a) = suc (subtree_count f + subtree_count a)
+subtree_count (Lam b) = suc (subtree_count b)
+subtree_count (TApp p a) = suc (subtree_count p + subtree_count a)
+subtree_count (Pi a b) = suc (subtree_count a + subtree_count b)
+subtree_count t = 1

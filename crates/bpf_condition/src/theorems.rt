@@ -17,7 +17,7 @@ ghost use Rattle.bpf_condition.specs.Condition.{HasClassProof, annotated_bpf, bp
 ghost use Rattle.bpf_condition.specs.Condition.{most_height};
 ghost use Rattle.term_table.specs.Tree.{Tree};
 ghost use Rattle.proof_container.specs.Postorder.{AreEmitted, HasPartsFirst, entries, is_emitted};
-ghost use Rattle.bpf_condition.specs.Parts.{HoldsParts, node_count, subtrees};
+ghost use Rattle.bpf_condition.specs.Parts.{HoldsParts, subtree_count, subtrees};
 ghost use Rattle.bpf_condition.specs.declared.limits.TheConstants.{MOST_ENTRIES};
 
 /// States the theorems about the verification condition of a program's code. The code of a program
@@ -58,7 +58,7 @@ pub fn entry_laws()
         → length (entries roots) ≤ length held }
     ensures subtrees { (t : Tree) → HoldsParts (subtrees t) }
     ensures root { (t : Tree) → is_emitted t (subtrees t) ≡ true }
-    ensures count { (t : Tree) → length (subtrees t) ≡ node_count t }
+    ensures count { (t : Tree) → length (subtrees t) ≡ subtree_count t }
     ensures both { (held more : List Tree) → HoldsParts held → HoldsParts more
         → HoldsParts (held ++ more) }
     ensures one_more { (held : List Tree) (t : Tree) → HoldsParts held → HasPartsFirst held t

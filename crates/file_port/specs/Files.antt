@@ -38,14 +38,14 @@ MayGive max known missing = missing ≡ given_by max known
 MayGive max known too_long = too_long ≡ given_by max known
 
 -- it gives at most so many bytes
-abbrev pub IsWithin : ℕ → Given → Type 0
-IsWithin max (whole b) = length b ≤ max
-IsWithin max _ = ⊤
+abbrev pub GivesAtMost : ℕ → Given → Type 0
+GivesAtMost max (whole b) = length b ≤ max
+GivesAtMost max _ = ⊤
 
 -- A read that doesn't fail leaves everything as it was, and gives what is right where the file is known.
 pub record ReadAnswers (name : List ℕ) (max : ℕ) (old new : FilesState) (given : Given) : Type 0 where
   pub same : new ≡ old
-  pub within : IsWithin max given
+  pub within : GivesAtMost max given
   pub right : TellsOf old name (λ known. MayGive max known given)
 
 -- what a read of a name, of at most max bytes, does

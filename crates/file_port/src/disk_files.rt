@@ -2,7 +2,7 @@
 
 ghost use Rattle.std.specs.Prelude.{◌≡◌, [], None};
 ghost use Rattle.file_port.specs.Events.{given_of};
-ghost use Rattle.file_port.specs.Files.{IsWithin};
+ghost use Rattle.file_port.specs.Files.{GivesAtMost};
 ghost use Rattle.file_port.specs.DiskFiles.{state_of_disk_files, log_of_disk_files};
 
 use crate::log::{Asked, Log};
@@ -52,7 +52,7 @@ impl<R: rt::Files> DiskFiles<R> {
 
 /// Opens and reads a file.
 fn read_file<R: rt::Files>(rt: &R, alloc: Global, name: &str, max: u32) -> Got
-    ensures { IsWithin max (given_of result) }
+    ensures { GivesAtMost max (given_of result) }
 {
     match File::open(rt, name) {
         Ok(mut file) => read_to_end(&mut file, alloc, max),

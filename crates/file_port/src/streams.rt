@@ -4,7 +4,7 @@ ghost use Rattle.std.specs.Prelude.{◌≡◌, ◌≢◌, ℕ, List, [], IfSome}
 ghost use Rattle.std.specs.IoError.{error_kind};
 ghost use Rattle.file_port.specs.declared.port.Put.{Put};
 ghost use Rattle.file_port.specs.Events.{given_of};
-ghost use Rattle.file_port.specs.Files.{IsWithin};
+ghost use Rattle.file_port.specs.Files.{GivesAtMost};
 ghost use Rattle.file_port.specs.Inside.Streams.{MayRead};
 ghost use Rattle.file_port.specs.StdSink.{TakesUp};
 
@@ -18,7 +18,7 @@ const PIECE: usize = 4096;
 /// Returns the result of a read for an error of the system: `Memory` if it is out of memory, else
 /// `Failed`.
 pub fn answer_to(error: Error) -> Got
-    ensures within { (max : ℕ) → IsWithin max (given_of result) }
+    ensures within { (max : ℕ) → GivesAtMost max (given_of result) }
     ensures right { (max : ℕ) (bytes : List ℕ) → MayRead max bytes result }
     ensures memory { error_kind error ≡ ErrorKind.OutOfMemory → result ≡ Got.Memory }
     ensures failed { error_kind error ≢ ErrorKind.OutOfMemory → result ≡ Got.Failed }
@@ -31,7 +31,7 @@ pub fn answer_to(error: Error) -> Got
 
 /// Reads to the end, to the first error or until one byte more than `max` is read.
 pub fn read_to_end<S: Read>(source: &mut S, alloc: Global, max: u32) -> Got
-    ensures within { IsWithin max (given_of result) }
+    ensures within { GivesAtMost max (given_of result) }
     ensures right { IfSome (S.remaining source.old) (λ bytes. MayRead max bytes result) }
 {
     let mut bytes = Vec::new(alloc);

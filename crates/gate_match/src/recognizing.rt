@@ -18,7 +18,7 @@ ghost use Rattle.gate_match.specs.Answers.{IsConditionAnswer};
 ghost use Rattle.vcgen.specs.WalkTree.{start_terms, entry_terms, closed_term};
 ghost use Rattle.vcgen.specs.WalkTree.{walked, walked_from};
 ghost use Rattle.vcgen.specs.WalkTree.{part_terms, condition_term};
-ghost use Rattle.vcgen.specs.Symbols.{ids_of, IsProgram};
+ghost use Rattle.vcgen.specs.Symbols.{ids_of, IsKnownProgram};
 ghost use Rattle.gate_match.specs.Inside.Comparisons.{Compares};
 
 use crate::comparing::{is_walk_entry, is_walk_from};
@@ -156,7 +156,7 @@ fn is_condition_of(
     goal: Id,
 ) -> Result<bool, Exhausted>
     requires program { let p = program.now in
-        IsProgram table.old p.code.now p.invs.now p.post }
+        IsKnownProgram table.old p.code.now p.invs.now p.post }
     requires inside { All (λ p. p.0 < length program.now.code.now) program.now.invs.now }
     requires pre { IsKnown table.old pre }
     requires goal { IsKnown table.old goal }

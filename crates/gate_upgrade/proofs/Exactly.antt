@@ -12,12 +12,12 @@ use Rattle.proof_container.specs.declared.container.Head.TheVariants.{Number, Di
 use Rattle.proof_container.specs.declared.limits.TheConstants.{MAX_BYTES}
 use Rattle.proof_container.specs.Contents.{Contents}
 use Rattle.proof_container.specs.Encoding.{EncodesContents, encoding_of}
-use Rattle.proof_container.specs.Decoding.{Fault, decoded_container}
+use Rattle.proof_container.specs.Decoding.{Fault, decoded_container, contents_or}
 use Rattle.gate_upgrade.specs.declared.fault.UpgradeFlaw.{UpgradeFlaw}
 use Rattle.gate_upgrade.specs.declared.fault.UpgradeFlaw.TheVariants as flaw
 use Rattle.gate_upgrade.specs.declared.limits.TheConstants.{GROWTH}
 use Rattle.gate_upgrade.specs.Laws.{UpgradedExactly}
-use Rattle.gate_upgrade.specs.Upgrading.{kind_numbered, with_digest, contents_found, contents_in, number_in, kind_found, size_within, upgraded_container}
+use Rattle.gate_upgrade.specs.Upgrading.{kind_numbered, with_digest, contents_in, number_in, kind_found, size_within, upgraded_container}
 use Rattle.gate_upgrade.specs.Upgrades.{IsUpgrade}
 use Rattle.gate_upgrade.proofs.Renamed.{renamed-holds, renamed-length}
 
@@ -136,7 +136,7 @@ module _ (decides : DecodesExactly) (bytes out : List ℕ) (held : IsBytes bytes
       Ok (encoding_of (with_digest (built_in kind) c))
 
   by-contents : (r : Result Contents Fault) → decoded_container bytes ≡ r
-      → behind (contents_found r) ≡ Ok out → IsUpgrade bytes out
+      → behind (contents_or (λ at what. flaw.Malformed at what) r) ≡ Ok out → IsUpgrade bytes out
   by-contents (Ok c) is e = by-head bytes out c ((decides bytes c held).1 is) c.head refl e
   by-contents (Err at) is e = cc
 
@@ -148,7 +148,8 @@ module _ (decides : DecodesExactly) (bytes out : List ℕ) (held : IsBytes bytes
       let some : behind (contents_in bytes) ≡ Ok out = e in
       cc
   by-length false test e =
-      let at : behind (contents_in bytes) ≡ behind (contents_found (decoded_container bytes)) =
+      let at : behind (contents_in bytes)
+      ≡ behind (contents_or (λ at what. flaw.Malformed at what) (decoded_container bytes)) =
       rw test refl in
       by-contents (decoded_container bytes) refl (sym at ∙ e)
 

@@ -12,7 +12,7 @@ use Rattle.proof_container.specs.declared.container.Head.TheVariants.{Number, Di
 use Rattle.proof_container.specs.declared.limits.TheConstants.{MAX_BYTES}
 use Rattle.proof_container.specs.Contents.{Contents}
 use Rattle.proof_container.specs.Encoding.{encoding_of}
-use Rattle.proof_container.specs.Decoding.{Fault, decoded_container}
+use Rattle.proof_container.specs.Decoding.{contents_within}
 use Rattle.gate_upgrade.specs.declared.fault.UpgradeFault.{UpgradeFault}
 use Rattle.gate_upgrade.specs.declared.fault.UpgradeFault.TheVariants as fault
 use Rattle.gate_upgrade.specs.declared.fault.UpgradeFlaw.{UpgradeFlaw}
@@ -43,17 +43,9 @@ with_digest policy c = record {
 
 -- ---- the tests
 
--- what was read as a container
-abbrev pub contents_found : Result Contents Fault → Result Contents UpgradeFlaw
-contents_found (Ok c) = Ok c
-contents_found (Err at) = Err (flaw.Malformed at.0 at.1)
-
 -- what the bytes hold, where they aren't too many
 abbrev pub contents_in : List ℕ → Result Contents UpgradeFlaw
-contents_in bytes =
-    if nat_lt MAX_BYTES (length bytes)
-    then Err (flaw.TooLong (length bytes))
-    else contents_found (decoded_container bytes)
+contents_in bytes = contents_within flaw.TooLong (λ at what. flaw.Malformed at what) bytes
 
 -- the number that a container names its policy by, which those of version 1 do, and no others
 abbrev pub number_in : Head → Result ℕ UpgradeFlaw

@@ -13,7 +13,7 @@ use Rattle.lf_lemmas.specs.Lemmas.{formulas_of, with_lemmas}
 use Rattle.lf_lemmas.specs.Tables.{lemmas_in, LemmasBelow}
 use Rattle.lf_lemmas.specs.Checking.{LemmasCheck}
 use Rattle.lf_lemmas.proofs.Prefixes.{part_law}
-use Rattle.lf_lemma_check.specs.First.{first_failing, cites_before, passes, proves_before}
+use Rattle.lf_lemma_check.specs.First.{first_failing, cites_before, lemma_passes, proves_before}
 use Rattle.lf_lemma_check.specs.Inside.Joined.{checks_backwards}
 use Rattle.lf_lemma_check.specs.declared.searches.Asked.TheVariants.{Proof}
 use Rattle.lf_lemma_check.proofs.Failing.{none_is}
@@ -140,9 +140,9 @@ module _ (f g : ℕ → Tree × Tree → Bool) where
 -- no proof cites itself or a later one
 pub none_cites : (sig : Const → Option Tree) (lemmas : List (Tree × Tree)) →
     None ≡ first_failing cites_before 0 lemmas →
-    first_failing (λ n. passes sig Proof) 0 lemmas
+    first_failing (λ n. lemma_passes sig Proof) 0 lemmas
     ≡ first_failing (checks_backwards sig) 0 lemmas
-none_cites sig lemmas e = sym (none_late cites_before (λ n. passes sig Proof) 0 lemmas (sym e))
+none_cites sig lemmas e = sym (none_late cites_before (λ n. lemma_passes sig Proof) 0 lemmas (sym e))
 
 -- one does, and it is there
 pub late_short : (t : TableView) (ids : List (ℕ × ℕ)) (m : ℕ) →
@@ -156,11 +156,11 @@ late_short t ids m e =
 -- so the answer is one of the lemmas before it, or that one
 pub late_answer : (sig : Const → Option Tree) (t : TableView) (ids : List (ℕ × ℕ)) (m : ℕ) →
     Some m ≡ first_failing cites_before 0 (lemmas_in t ids) → (o : Option ℕ) →
-    o ≡ first_failing (λ n. passes sig Proof) 0 (lemmas_in t (take m ids)) →
+    o ≡ first_failing (λ n. lemma_passes sig Proof) 0 (lemmas_in t (take m ids)) →
     option_or o (Some m) ≡ first_failing (checks_backwards sig) 0 (lemmas_in t ids)
 late_answer sig t ids m e o q =
     let z : zero + m ≡ m = omega arith in
-    let g : ℕ → Tree × Tree → Bool = λ n. passes sig Proof in
+    let g : ℕ → Tree × Tree → Bool = λ n. lemma_passes sig Proof in
     let cut : take m (lemmas_in t ids) ≡ lemmas_in t (take m ids) =
     take-map (λ p. (tree_at t p.0, tree_at t p.1)) m ids in
     ap (λ o. option_or o (Some m)) q

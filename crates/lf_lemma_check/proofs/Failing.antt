@@ -11,7 +11,7 @@ use Rattle.lf_lemmas.specs.Tables.{lemmas_in, LemmasKnown, HoldsLemmas}
 use Rattle.lf_lemmas.specs.Laws.Lawful.{lemmas_hold}
 use Rattle.lf_lemmas.specs.Checking.{AllProve, CiteBackwards}
 use Rattle.lf_lemmas.proofs.Lists.{lemma_at, formula_at}
-use Rattle.lf_lemma_check.specs.First.{first_failing, passes, cites_before, IsFirst}
+use Rattle.lf_lemma_check.specs.First.{first_failing, lemma_passes, cites_before, IsFirst}
 use Rattle.lf_lemma_check.specs.declared.searches.Asked.TheVariants.{Formula, Proof}
 
 module _ (test : ℕ → Tree × Tree → Bool) where
@@ -131,31 +131,31 @@ module _ (test : ℕ → Tree × Tree → Bool) where
   )
 
 pub formula_passes : (sig : Const → Option Tree) (l : Tree × Tree) →
-    (passes sig Formula l ≡ true) ↔ Checks sig [] l.0 form
+    (lemma_passes sig Formula l ≡ true) ↔ Checks sig [] l.0 form
 formula_passes sig l = (λ e. checks_follows sig l.0 [] form e, λ d. checks_is sig d)
 
 pub proof_passes : (sig : Const → Option Tree) (l : Tree × Tree) →
-    (passes sig Proof l ≡ true) ↔ Checks sig [] l.1 (pf l.0)
+    (lemma_passes sig Proof l ≡ true) ↔ Checks sig [] l.1 (pf l.0)
 proof_passes sig l = (λ e. checks_follows sig l.1 [] (pf l.0) e, λ d. checks_is sig d)
 
 pub all_formulas : (sig : Const → Option Tree) (lemmas : List (Tree × Tree)) →
-    (first_failing (λ n. passes sig Formula) 0 lemmas ≡ None)
+    (first_failing (λ n. lemma_passes sig Formula) 0 lemmas ≡ None)
     ↔ AreFormulas sig (formulas_of lemmas)
 all_formulas sig lemmas = (
   λ e n F q.
       let w = lemma_at lemmas n F q in
-      let h = (none_is (λ n. passes sig Formula) lemmas).0 e n w.0 w.1 in
+      let h = (none_is (λ n. lemma_passes sig Formula) lemmas).0 e n w.0 w.1 in
       subst (λ z. Checks sig [] z form) w.2 ((formula_passes sig w.0).0 h),
   λ h.
-      (none_is (λ n. passes sig Formula) lemmas).1
+      (none_is (λ n. lemma_passes sig Formula) lemmas).1
       (λ n l q. (formula_passes sig l).1 (h n l.0 (formula_at lemmas n l q))),
 )
 
 pub all_proofs : (sig : Const → Option Tree) (lemmas : List (Tree × Tree)) →
-    (first_failing (λ n. passes sig Proof) 0 lemmas ≡ None) ↔ AllProve sig lemmas
+    (first_failing (λ n. lemma_passes sig Proof) 0 lemmas ≡ None) ↔ AllProve sig lemmas
 all_proofs sig lemmas = (
-  λ e n l q. (proof_passes sig l).0 ((none_is (λ n. passes sig Proof) lemmas).0 e n l q),
-  λ h. (none_is (λ n. passes sig Proof) lemmas).1 (λ n l q. (proof_passes sig l).1 (h n l q)),
+  λ e n l q. (proof_passes sig l).0 ((none_is (λ n. lemma_passes sig Proof) lemmas).0 e n l q),
+  λ h. (none_is (λ n. lemma_passes sig Proof) lemmas).1 (λ n l q. (proof_passes sig l).1 (h n l q)),
 )
 
 pub all_citations : (lemmas : List (Tree × Tree)) →
@@ -165,7 +165,7 @@ all_citations lemmas = none_is cites_before lemmas
 -- where each formula is one the table holds the lemmas, also when it has grown
 pub held : (sig : Const → Option Tree) (t u : TableView) (ids : List (ℕ × ℕ)) → HasNoLemmas sig →
     LemmasKnown t ids → Extends t u →
-    first_failing (λ n. passes sig Formula) 0 (lemmas_in t ids) ≡ None → HoldsLemmas sig u ids
+    first_failing (λ n. lemma_passes sig Formula) 0 (lemmas_in t ids) ≡ None → HoldsLemmas sig u ids
 held sig t u ids free known grows none =
     lemmas_hold sig sig ids t u refl grows
     (record { known = known; free = free; formulas = (all_formulas sig (lemmas_in t ids)).0 none })

@@ -15,9 +15,9 @@ first_failing test k (l ∷ rest) = if test k l then first_failing test (suc k) 
 
 -- whether in the empty context the lemma's formula checks at form, or its proof at the proofs of
 -- its formula
-abbrev pub passes : (Const → Option Tree) → Asked → Tree × Tree → Bool
-passes sig A.Formula l = checks_of sig l.0 [] form
-passes sig A.Proof l = checks_of sig l.1 [] (pf l.0)
+abbrev pub lemma_passes : (Const → Option Tree) → Asked → Tree × Tree → Bool
+lemma_passes sig A.Formula l = checks_of sig l.0 [] form
+lemma_passes sig A.Proof l = checks_of sig l.1 [] (pf l.0)
 
 -- whether its proof cites lemmas before it alone
 abbrev pub cites_before : ℕ → Tree × Tree → Bool

@@ -5,7 +5,7 @@ ghost use Rattle.term_table.specs.Table.{IsKnown, tree_at, Extends};
 ghost use Rattle.lf_signature.specs.Decide.{checks_of};
 ghost use Rattle.lf_check.specs.Kept.{AreKept};
 ghost use Rattle.lf_lemmas.specs.Tables.{lemmas_in, LemmasKnown};
-ghost use Rattle.lf_lemma_check.specs.First.{passes, first_failing};
+ghost use Rattle.lf_lemma_check.specs.First.{lemma_passes, first_failing};
 
 use lf_check::{Exhausted, Kept, check_term_with};
 use lf_signature::numbers::FORM;
@@ -56,7 +56,7 @@ fn passes<S: Signature>(
     requires proof { IsKnown table.old proof }
     requires kept { AreKept (S.declares sig.now table.old) table.old kept.old }
     ensures exact { let sig = S.declares sig.now table.old in IfOk result
-        (λ b. b ≡ passes sig asked (tree_at table.old formula, tree_at table.old proof)) }
+        (λ b. b ≡ lemma_passes sig asked (tree_at table.old formula, tree_at table.old proof)) }
     ensures extends { Extends table.old table.new }
     ensures kept { AreKept (S.declares sig.now table.new) table.new kept.new }
 {
@@ -85,7 +85,7 @@ fn failing_from<S: Signature>(
     requires known { LemmasKnown table.old lemmas.now }
     requires few { from + length lemmas.now < 2 ^ 32 }
     requires kept { AreKept (S.declares sig.now table.old) table.old kept.old }
-    ensures exact { let test = passes (S.declares sig.now table.old) asked in IfOk result
+    ensures exact { let test = lemma_passes (S.declares sig.now table.old) asked in IfOk result
         (λ found. found ≡ first_failing (λ n. test) from (lemmas_in table.old lemmas.now)) }
     ensures extends { Extends table.old table.new }
     ensures kept { AreKept (S.declares sig.now table.new) table.new kept.new }
@@ -121,7 +121,7 @@ pub fn first_failing<S: Signature>(
     requires known { LemmasKnown table.old lemmas.now }
     requires few { length lemmas.now < 2 ^ 32 }
     requires kept { AreKept (S.declares sig.now table.old) table.old kept.old }
-    ensures exact { let test = passes (S.declares sig.now table.old) asked in IfOk result
+    ensures exact { let test = lemma_passes (S.declares sig.now table.old) asked in IfOk result
         (λ found. found ≡ first_failing (λ n. test) 0 (lemmas_in table.old lemmas.now)) }
     ensures extends { Extends table.old table.new }
     ensures kept { AreKept (S.declares sig.now table.new) table.new kept.new }

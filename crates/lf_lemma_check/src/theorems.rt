@@ -10,8 +10,8 @@ ghost use Rattle.lf_check.specs.declared.judgements.Kept.{Kept};
 ghost use Rattle.lf_lemmas.specs.Lemmas.{formulas_of, with_lemmas, HasNoLemmas, AreFormulas};
 ghost use Rattle.lf_lemmas.specs.Tables.{lemmas_in, LemmasKnown, HoldsLemmas};
 ghost use Rattle.lf_lemmas.specs.Checking.{AllProve, CiteBackwards, LemmasCheck};
-ghost use Rattle.lf_lemma_check.specs.First.{first_failing, passes, cites_before, proves_before};
-ghost use Rattle.lf_lemma_check.specs.First.{IsFirst};
+ghost use Rattle.lf_lemma_check.specs.First.{first_failing, lemma_passes, cites_before};
+ghost use Rattle.lf_lemma_check.specs.First.{proves_before, IsFirst};
 ghost use Rattle.lf_lemma_check.specs.declared.searches.Asked.TheVariants.{Formula, Proof};
 
 /// States what the searches' results mean. A number that is found is the number of the first lemma
@@ -26,20 +26,20 @@ pub fn laws()
     ensures first { (test : ℕ → Tree × Tree → Bool) (lemmas : List (Tree × Tree)) (n : ℕ) →
         first_failing test 0 lemmas ≡ Some n → IsFirst test lemmas n }
     ensures formulas { (sig : Const → Option Tree) (lemmas : List (Tree × Tree)) →
-        (first_failing (λ n. passes sig Formula) 0 lemmas ≡ None)
+        (first_failing (λ n. lemma_passes sig Formula) 0 lemmas ≡ None)
         ↔ AreFormulas sig (formulas_of lemmas) }
     ensures proofs { (sig : Const → Option Tree) (lemmas : List (Tree × Tree)) →
-        (first_failing (λ n. passes sig Proof) 0 lemmas ≡ None) ↔ AllProve sig lemmas }
+        (first_failing (λ n. lemma_passes sig Proof) 0 lemmas ≡ None) ↔ AllProve sig lemmas }
     ensures citations { (lemmas : List (Tree × Tree)) →
         (first_failing cites_before 0 lemmas ≡ None) ↔ CiteBackwards lemmas }
     ensures holds { (sig : Const → Option Tree) (t u : TableView) (ids : List (ℕ × ℕ)) →
         HasNoLemmas sig → LemmasKnown t ids → Extends t u →
-        first_failing (λ n. passes sig Formula) 0 (lemmas_in t ids) ≡ None →
+        first_failing (λ n. lemma_passes sig Formula) 0 (lemmas_in t ids) ≡ None →
         HoldsLemmas sig u ids }
     ensures is_formula { (sig : Const → Option Tree) (l : Tree × Tree) →
-        (passes sig Formula l ≡ true) ↔ Checks sig [] l.0 form }
+        (lemma_passes sig Formula l ≡ true) ↔ Checks sig [] l.0 form }
     ensures is_proof { (sig : Const → Option Tree) (l : Tree × Tree) →
-        (passes sig Proof l ≡ true) ↔ Checks sig [] l.1 (pf l.0) }
+        (lemma_passes sig Proof l ≡ true) ↔ Checks sig [] l.1 (pf l.0) }
     ensures unproved { (sig : Const → Option Tree) (lemmas : List (Tree × Tree)) →
         (first_failing (proves_before sig (formulas_of lemmas)) 0 lemmas ≡ None)
         ↔ LemmasCheck sig lemmas }

@@ -20,7 +20,7 @@ use Rattle.pcc_stages.proofs.RunLemmas.{is_stop, is_read}
 use Rattle.pcc_stages.specs.declared.files.TheConstants.{MAX_FILE}
 use Rattle.pcc_stages.specs.Texts.{texts}
 use Rattle.pcc_stages.specs.Stages.Common.{refused, printing}
-use Rattle.pcc_commands.specs.Stages.Judging.{unless_refused}
+use Rattle.pcc_commands.specs.Stages.Judging.{stops_if_refused}
 use Rattle.pcc_cli.specs.Headline.{IsVerdict, IsJudged, Checks}
 
 -- ---- what follows a stage
@@ -190,7 +190,7 @@ given_bytes name max given rest events f g is h = let at : Happens (was_read nam
 module _ (accepted_first : AcceptedFirst) (under : PolicyView) where
   -- what `check` goes on with
   abbrev pub judged_by : Option Refusal → Stage Effect
-  judged_by r = unless_refused r >>= λ accepted. printing accepted_line
+  judged_by r = stops_if_refused r >>= λ accepted. printing accepted_line
 
   pub judged_by-ended : (r : Option Refusal) → is_read (judged_by r) ≡ false
   judged_by-ended None = refl

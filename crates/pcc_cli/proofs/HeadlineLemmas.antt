@@ -52,7 +52,7 @@ use Rattle.pcc_stages.specs.Stages.Packets.{packets_found, packets_in, packets_o
 use Rattle.pcc_stages.specs.Stages.Policies.{policy_from}
 use Rattle.pcc_commands.specs.declared.stages.TheConstants.{MAX_PROGRAM_FILE}
 use Rattle.pcc_commands.specs.Stages.Writing.{writing}
-use Rattle.pcc_commands.specs.Stages.Judging.{unless_refused, accepted_in, accepted_code_in, accepted_of, accepted_code_of}
+use Rattle.pcc_commands.specs.Stages.Judging.{stops_if_refused, accepted_in, accepted_code_in, accepted_of, accepted_code_of}
 use Rattle.pcc_commands.specs.Stages.Assembling.{assembled_in, assembled_of}
 use Rattle.pcc_commands.specs.Stages.Proving.{container_proved, proved_in, proved_of}
 use Rattle.pcc_commands.specs.Stages.Upgrading.{container_upgraded, upgraded_in, upgraded_of}
@@ -201,7 +201,7 @@ module _ (accepted_first : AcceptedFirst) (under : PolicyView) (file packets : L
     unfolding accepted_code_in accepted_in
     run_by-refused b r some =
         ap
-        (λ x. (unless_refused x >>= λ accepted. code_in under b) >>= λ code. packets_of
+        (λ x. (stops_if_refused x >>= λ accepted. code_in under b) >>= λ code. packets_of
         packets >>= λ all. printing
         (result_lines under.kind (packet_result under code steps) 0 all)) some
 

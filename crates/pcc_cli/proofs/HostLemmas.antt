@@ -36,7 +36,7 @@ use Rattle.pcc_stages.specs.Stages.Common.{refused, policy_found, printing}
 use Rattle.pcc_stages.specs.Stages.Containers.{code_in}
 use Rattle.pcc_stages.specs.Stages.Packets.{packets_found, packets_of}
 use Rattle.pcc_stages.proofs.StageLemmas.{bind-assoc, went_on-bind}
-use Rattle.pcc_commands.specs.Stages.Judging.{unless_refused, accepted_in, accepted_code_in, accepted_code_of}
+use Rattle.pcc_commands.specs.Stages.Judging.{stops_if_refused, accepted_in, accepted_code_in, accepted_code_of}
 use Rattle.pcc_commands.specs.Stages.Hosting.{script_found, script_in, Member, unless_short, first_packet, packet_of, load_of, told_of, for_agent, agents_from}
 use Rattle.pcc_commands.specs.Commands.Host.{turn_lines}
 use Rattle.pcc_cli.specs.Headline.{agent_exit, unless_short_of, first_packet_of, packet_given, member_with, LoadsMember, no_policy, no_container, has_container, LoadsMembers, all, ended, ended_later, loaded, IsFaultTold, Hosts, no_script, not_loaded, took_turns}
@@ -135,7 +135,7 @@ module _ {B : Type 0} (accepted_first : AcceptedFirst) (a : ℕ) (one : LoadView
   load_judged policy b rest (Some r) some held named is follows =
       load_stopped policy (whole b) (refused (refusal_line r)) rest named is
       (no_container policy (whole b) (refused (refusal_line r)) named refl (verdict accepted_first policy b held (Some r) some) (omega arith) refl)
-      (subst (λ x. Follows texts rest (for_agent a (code_stage policy (unless_refused x >>= λ accepted. code_in policy b)) >>= next) later) some follows)
+      (subst (λ x. Follows texts rest (for_agent a (code_stage policy (stops_if_refused x >>= λ accepted. code_in policy b)) >>= next) later) some follows)
   load_judged policy b rest None none held named is follows =
       let it : IsAccepted policy b = (accepted_first policy b held).1 none in
       load_packets policy b it rest named is

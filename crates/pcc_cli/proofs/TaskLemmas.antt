@@ -26,7 +26,7 @@ use Rattle.pcc_asm.specs.declared.fault.AsmFlaw.{AsmFlaw}
 use Rattle.pcc_asm.specs.Names.{asm_flaw_line, asm_flaw_name}
 use Rattle.pcc_asm.specs.Assembling.{assembled_contents}
 use Rattle.bounds_prover.specs.declared.fault.ProveFlaw.{ProveFlaw}
-use Rattle.bounds_prover.specs.declared.fault.ProveFlaw.TheVariants as flaw
+use Rattle.bounds_prover.specs.declared.fault.ProveFlaw.TheVariants as prove_flaw
 use Rattle.bounds_prover.specs.Names.{measure_name}
 use Rattle.bounds_prover.specs.declared.fault.Measure.TheVariants.{Bytes}
 use Rattle.bounds_prover.specs.Proving.{proved_container}
@@ -77,7 +77,7 @@ use Rattle.pcc_stages.specs.Stages.Packets.{packets_found, packets_in, packets_o
 use Rattle.pcc_commands.specs.declared.stages.TheConstants.{MAX_PROGRAM_FILE}
 use Rattle.pcc_commands.specs.Stages.Upgrading.{container_upgraded, upgraded_in, upgraded_of}
 use Rattle.pcc_commands.specs.Stages.Writing.{writing}
-use Rattle.pcc_commands.specs.Stages.Judging.{unless_refused, accepted_in, accepted_code_in, Shown, shown_in, accepted_of, accepted_code_of}
+use Rattle.pcc_commands.specs.Stages.Judging.{stops_if_refused, accepted_in, accepted_code_in, Shown, shown_in, accepted_of, accepted_code_of}
 use Rattle.pcc_commands.specs.Stages.Assembling.{source_found, source_in, container_made, assembled_as, assembled_in, assembled_of}
 use Rattle.pcc_commands.specs.Stages.Proving.{container_proved, proved_in, proved_of}
 use Rattle.pcc_commands.specs.Stages.Compiling.{program_found, program_in, compiled_as, compiled_in, compiled_of}
@@ -241,13 +241,13 @@ module _ (names : Option (List (List ℕ))) where
       (container_in policy bytes) (container_in-fits policy bytes)
       (λ c. code_found-fits (decoded_code (profile_of c.version) c.code))
 
-  unless_refused-fits : (r : Option Refusal) → Fits (unless_refused r)
-  unless_refused-fits None = refl
-  unless_refused-fits (Some r) = inl (refusal_stop r)
+  stops_if_refused-fits : (r : Option Refusal) → Fits (stops_if_refused r)
+  stops_if_refused-fits None = refl
+  stops_if_refused-fits (Some r) = inl (refusal_stop r)
 
   accepted_in-fits : (policy : PolicyView) (bytes : List ℕ) → Fits (accepted_in policy bytes)
   unfolding accepted_in
-  accepted_in-fits policy bytes = unless_refused-fits (first_refusal policy bytes)
+  accepted_in-fits policy bytes = stops_if_refused-fits (first_refusal policy bytes)
 
   accepted_code_in-fits : (policy : PolicyView) (bytes : List ℕ)
       → Fits (accepted_code_in policy bytes)
@@ -286,10 +286,10 @@ module _ (names : Option (List (List ℕ))) where
 
   container_proved-fits : (r : Result (List ℕ) ProveFlaw) → Fits (container_proved r)
   container_proved-fits (Ok bytes) = refl
-  container_proved-fits (Err (flaw.Refused r)) = inl (refusal_stop r)
-  container_proved-fits (Err (flaw.NotEasy part)) =
+  container_proved-fits (Err (prove_flaw.Refused r)) = inl (refusal_stop r)
+  container_proved-fits (Err (prove_flaw.NotEasy part)) =
       inl (let first : get_or (not_easy_line part) 0 0 ≡ 110 = not_easy-first part in stop_line (not_easy_line part) (omega arith))
-  container_proved-fits (Err (flaw.TooBig measure number)) =
+  container_proved-fits (Err (prove_flaw.TooBig measure number)) =
       inl (too_big_stop (measure_name measure) number)
 
   proved_in-fits : (policy : PolicyView) (bytes : List ℕ) → Fits (proved_in policy bytes)

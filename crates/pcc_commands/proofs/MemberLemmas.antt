@@ -20,7 +20,7 @@ use Rattle.pcc_stages.proofs.StageLemmas.{bind-assoc, bind-gives, lifted, stops_
 use Rattle.pcc_commands.specs.declared.commands.host.Admitted.{Admitted}
 use Rattle.pcc_commands.specs.Stages.Judging.{accepted_code_of}
 use Rattle.pcc_commands.specs.Stages.Hosting.{Member, packet_of, load_of, for_agent, agents_from}
-use Rattle.pcc_commands.specs.Inside.Behind.{member_with, load_under}
+use Rattle.pcc_commands.specs.Inside.Behind.{member_on_packet, load_under}
 use Rattle.pcc_commands.specs.Inside.Standing.{HasStart}
 use Rattle.pcc_commands.specs.Inside.Turning.{AreReadyFrom, member_view, members_view}
 use Rattle.pcc_commands.proofs.AgentLemmas.{for-bind}
@@ -31,12 +31,12 @@ use Rattle.pcc_commands.proofs.AgentLemmas.{for-bind}
 pub load_stages : (a : ℕ) (one : LoadView) → for_agent a (load_of a one) ≡ (for_agent a (policy_named one.policy) >>= load_under a one)
 unfolding load_of
 load_stages a one =
-    for-bind a (policy_named one.policy) (λ policy. accepted_code_of policy one.file >>= λ code. packet_of a policy one.packets >>= λ packet. gives (member_with policy code packet))
+    for-bind a (policy_named one.policy) (λ policy. accepted_code_of policy one.file >>= λ code. packet_of a policy one.packets >>= λ packet. gives (member_on_packet policy code packet))
     ∙ ap (λ (next : PolicyView → Stage Member). for_agent a (policy_named one.policy) >>= next)
     (fun_ext (λ policy.
-    for-bind a (accepted_code_of policy one.file) (λ code. packet_of a policy one.packets >>= λ packet. gives (member_with policy code packet))
+    for-bind a (accepted_code_of policy one.file) (λ code. packet_of a policy one.packets >>= λ packet. gives (member_on_packet policy code packet))
     ∙ ap (λ (next : List Insn → Stage Member). for_agent a (accepted_code_of policy one.file) >>= next) (fun_ext (λ code.
-    for-bind a (packet_of a policy one.packets) (λ packet. gives (member_with policy code packet))))))
+    for-bind a (packet_of a policy one.packets) (λ packet. gives (member_on_packet policy code packet))))))
 
 -- ---- loads in order
 

@@ -18,7 +18,7 @@ use Rattle.pcc_stages.specs.Stages.Containers.{container_in, code_found, code_in
 use Rattle.pcc_stages.specs.Answers.{GivesPure}
 use Rattle.pcc_stages.specs.declared.stops.Stop.{Stop}
 use Rattle.pcc_stages.proofs.StageLemmas.{pure_stops}
-use Rattle.pcc_commands.specs.Stages.Judging.{unless_refused, accepted_in, accepted_code_in, Shown, shown_in}
+use Rattle.pcc_commands.specs.Stages.Judging.{stops_if_refused, accepted_in, accepted_code_in, Shown, shown_in}
 use Rattle.pcc_commands.specs.Inside.Shows.{shown_by}
 use Rattle.term_table.specs.Tree.{Tree}
 
@@ -45,13 +45,14 @@ module _ (policy : PolicyView) (bytes : List ℕ) (contents : Contents) (code : 
   -- what is accepted has the code that the bytes hold
   pub accepted_code_of_bytes : first_refusal policy bytes ≡ None → accepted_code_in policy bytes ≡ gives code
   unfolding accepted_code_in accepted_in
-  accepted_code_of_bytes none = ap (λ r. unless_refused r >>= λ accepted. code_in policy bytes) none ∙ code_given
+  accepted_code_of_bytes none = ap (λ r. stops_if_refused r >>= λ accepted. code_in policy bytes) none ∙ code_given
 
   -- and so many invariants
   pub shown_of_bytes : first_refusal policy bytes ≡ None → shown_in policy bytes ≡ gives (record { code = code; invariants = length contents.invs })
   unfolding shown_in accepted_in
   shown_of_bytes none =
-      ap (λ r. unless_refused r >>= λ accepted. container_in policy bytes >>= λ container. code_in policy bytes >>= λ insns. gives (shown insns container)) none
+      ap (λ r. stops_if_refused r >>= λ accepted. container_in policy bytes
+      >>= λ container. code_in policy bytes >>= λ insns. gives (shown insns container)) none
       ∙ ap (λ c. c >>= λ container. code_in policy bytes >>= λ insns. gives (shown insns container)) container_given
       ∙ ap (λ c. c >>= λ insns. gives (shown insns contents)) code_given
     where

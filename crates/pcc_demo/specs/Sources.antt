@@ -1,9 +1,9 @@
 -- The source of `demo N`: N loads from the packet's front, each summed, then a loop that sums the whole packet; it returns whether the sum is odd.
 use Rattle.std.specs.Prelude.{ℕ, zero, suc, ◌*◌, ◌%◌, List, [], ◌++◌, codes, decimal}
 
--- register 2 is 0
-abbrev pub first_line : List ℕ
-first_line = codes "      lda $2,0($31)\n"
+-- register 2 is cleared
+abbrev pub clear_line : List ℕ
+clear_line = codes "      lda $2,0($31)\n"
 
 -- quadword number j of the first eight, counted round, is loaded and summed
 abbrev pub load_lines : ℕ → List ℕ
@@ -20,4 +20,4 @@ last_lines = codes "      lda $3,0($31)\n      .inv (and (eq (band r3 7) 0) (all
 
 -- the source with n loads
 abbrev pub demo_source : ℕ → List ℕ
-demo_source n = (first_line ++ loads n) ++ last_lines
+demo_source n = (clear_line ++ loads n) ++ last_lines

@@ -38,7 +38,7 @@ use Rattle.vcgen.specs.Encoded.{annotated}
 use Rattle.word_ops.specs.declared.Profile.TheVariants.{Two}
 use Rattle.pcc_gate.specs.First.{too_high}
 use Rattle.pcc_gate.specs.Weights.{proof_weight}
-use Rattle.pcc_gate.specs.Witness.{load_code, BoundIsAccepted}
+use Rattle.pcc_gate.specs.Witness.{load_and_return, BoundIsAccepted}
 use Rattle.pcc_gate.proofs.Digests.{digest-head}
 use Rattle.pcc_gate.proofs.Searches.{none_low}
 use Rattle.pcc_gate.proofs.Ready.{are_ready, all_ready, bytes_from, all_nodes, few_of, all_fields_few}
@@ -159,12 +159,12 @@ size =
       entries_few,
     )
 
-decoded : decoded_code Two load_bytes ≡ told load_code
+decoded : decoded_code Two load_bytes ≡ told load_and_return
 unfolding decoded_code
 decoded = refl
 
-encoded : EncodesCode Two load_bytes load_code × IsCode load_code
-encoded = encoded_as Two load_bytes load_code refl (omega arith) (omega arith) decoded
+encoded : EncodesCode Two load_bytes load_and_return × IsCode load_and_return
+encoded = encoded_as Two load_bytes load_and_return refl (omega arith) (omega arith) decoded
 
 none_high : too_high (roots contents) ≡ None
 unfolding whole_proof
@@ -173,7 +173,7 @@ none_high = refl
 no_lemmas : AreFormulas (declared Sigma3) []
 no_lemmas n F e = absurd (none-some F e)
 
-is_said : form_encoding (condition (annotated (built_in Tag) (Some 2) load_code []))
+is_said : form_encoding (condition (annotated (built_in Tag) (Some 2) load_and_return []))
     ≡ form_encoding said
 unfolding machine_names unchanged
 is_said = refl
@@ -202,8 +202,8 @@ bound_is_accepted = record {
       heights = none_low (roots contents) none_high;
       forms = tt;
       lemma_forms = no_lemmas;
-      annotated = annotated_flags Two contents load_code is_contents encoded.0;
-      cut = uncut_none load_code marks encoded.1 refl;
+      annotated = annotated_flags Two contents load_and_return is_contents encoded.0;
+      cut = uncut_none load_and_return marks encoded.1 refl;
       unfolded = omega arith;
     };
     proof = whole_proof;

@@ -1,5 +1,5 @@
 -- Terms and bytes of worked containers, by tests that compute.
-use Rattle.std.proofs.Common.{◌≡◌, ℕ, zero, suc, ◌+◌, ◌*◌, ◌^◌, ◌≤◌, Bool, true, false, cond, eqb, List, [], ◌∷◌, ◌++◌, length, arith, length-append}
+use Rattle.std.proofs.Common.{◌≡◌, ℕ, zero, suc, ◌+◌, ◌*◌, ◌^◌, ◌<◌, ◌≤◌, Bool, true, false, cond, eqb, List, [], ◌∷◌, ◌++◌, length, arith, length-append}
 use Rattle.std.specs.Prelude.{◌&&◌, nat_lt, sum_by}
 use Rattle.std.proofs.lemmas.Bool.{ltb-true, eqb-true, and_parts, false≢true}
 use Rattle.std.proofs.lemmas.List.Sums.{sum_by-cons}
@@ -13,13 +13,14 @@ use Rattle.proof_container.specs.Inside.Walked.{nodes}
 
 -- ---- terms
 
--- the constants that stand in the containers, with room for their numbers: a lemma in version 4
--- alone
+-- the constants that a container may have, with room for their numbers: a lemma in version 4 alone
 abbrev is_small_const : ℕ → Const → Bool
 is_small_const v (Num n) = nat_lt n (2 ^ 32)
 is_small_const v (Lit w) = nat_lt w (2 ^ 64)
 is_small_const v (Lemma n) = eqb v 4 && nat_lt n (2 ^ 32)
-is_small_const v _ = false
+is_small_const v (Calc o a b) = nat_lt o (2 ^ 32) && (nat_lt a (2 ^ 64) && nat_lt b (2 ^ 64))
+is_small_const v (Fact p a b) = nat_lt p (2 ^ 32) && (nat_lt a (2 ^ 64) && nat_lt b (2 ^ 64))
+is_small_const v (Deny p a b) = nat_lt p (2 ^ 32) && (nat_lt a (2 ^ 64) && nat_lt b (2 ^ 64))
 
 -- whether a term may be applied
 abbrev is_head : Tree → Bool
@@ -37,12 +38,19 @@ is_ready v (App f a) = is_ready v f && (is_head f && is_ready v a)
 is_ready v (Lam b) = is_ready v b
 is_ready v _ = false
 
+three_small : (n a b : ℕ) → nat_lt n (2 ^ 32) && (nat_lt a (2 ^ 64) && nat_lt b (2 ^ 64)) ≡ true
+    → (n < 2 ^ 32) × (a < 2 ^ 64) × (b < 2 ^ 64)
+three_small n a b e =
+    let q = and_parts (nat_lt n (2 ^ 32)) (nat_lt a (2 ^ 64) && nat_lt b (2 ^ 64)) e in
+    let r = and_parts (nat_lt a (2 ^ 64)) (nat_lt b (2 ^ 64)) q.1 in
+    (ltb-true n (2 ^ 32) q.0, ltb-true a (2 ^ 64) r.0, ltb-true b (2 ^ 64) r.1)
+
 small_const : (v : ℕ) (c : Const) → is_small_const v c ≡ true → IsSmallConst c
 small_const v (Num n) e = ltb-true n (2 ^ 32) e
 small_const v (Lit w) e = ltb-true w (2 ^ 64) e
-small_const v (Calc o a b) e = absurd (false≢true e)
-small_const v (Fact p a b) e = absurd (false≢true e)
-small_const v (Deny p a b) e = absurd (false≢true e)
+small_const v (Calc o a b) e = three_small o a b e
+small_const v (Fact p a b) e = three_small p a b e
+small_const v (Deny p a b) e = three_small p a b e
 small_const v (Lemma n) e =
     ltb-true n (2 ^ 32) (and_parts (eqb v 4) (nat_lt n (2 ^ 32)) e).1
 

@@ -14,7 +14,7 @@ use Rattle.lf_signature.specs.Typing.{Checks}
 use Rattle.lf_signature.specs.Laws.Decided.{checks_is, checks_follows}
 use Rattle.lf_lemmas.specs.Lemmas.{formulas_of, with_lemmas, AreFormulas}
 use Rattle.lf_lemmas.specs.Checking.{LemmasCheck}
-use Rattle.lf_lemma_check.specs.First.{first_failing, passes, proves_before}
+use Rattle.lf_lemma_check.specs.First.{first_failing, lemma_passes, proves_before}
 use Rattle.lf_lemma_check.specs.declared.searches.Asked.TheVariants.{Formula}
 use Rattle.lf_lemma_check.proofs.Failing.{none_is, all_formulas, formula_passes}
 use Rattle.lf_lemma_check.proofs.Backwards.{all_before, before_passes}
@@ -257,7 +257,7 @@ formulas_front (p ∷ ps) rest = ap (λ z. p.0 ∷ z) (formulas_front ps rest)
 module _ (s : WordSignature) where
   -- whether the lemma's formula is one
   abbrev formula_test : ℕ → Tree × Tree → Bool
-  formula_test n l = passes (declared s) Formula l
+  formula_test n l = lemma_passes (declared s) Formula l
 
   pub formulas_none : (lemmas : List (Tree × Tree)) →
       AreFormulas (declared s) (formulas_of lemmas) → lemma_formless s lemmas ≡ None
@@ -271,8 +271,8 @@ module _ (s : WordSignature) where
       lemma_formless s lemmas ≡ Some k
   first_no_formula lemmas k f =
       let e : 0 + length f.front ≡ k = omega (arith, f.is) in
-      let wrong : passes (declared s) Formula f.lemma ≡ false =
-      not-true (passes (declared s) Formula f.lemma)
+      let wrong : lemma_passes (declared s) Formula f.lemma ≡ false =
+      not-true (lemma_passes (declared s) Formula f.lemma)
       (λ q. f.no_form ((formula_passes (declared s) f.lemma).0 q)) in
       ap (lemma_formless s) f.split
       ∙ failing_found formula_test f.front f.lemma f.rest 0 (formulas_none f.front f.forms) wrong
@@ -286,7 +286,7 @@ module _ (s : WordSignature) where
     rest = f.rest;
     split = f.split;
     forms = none_formulas f.front f.none;
-    no_form = λ h. not-both (passes (declared s) Formula f.lemma) f.fails
+    no_form = λ h. not-both (lemma_passes (declared s) Formula f.lemma) f.fails
         ((formula_passes (declared s) f.lemma).1 h);
     is = let e = f.is in omega (arith, e);
   }

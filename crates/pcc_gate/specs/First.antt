@@ -14,7 +14,7 @@ use Rattle.lf_signature.specs.Constants.{declared}
 use Rattle.lf_signature.specs.Terms.{form, pf}
 use Rattle.lf_signature.specs.Decide.{checks_of}
 use Rattle.lf_lemmas.specs.Lemmas.{formulas_of, with_lemmas}
-use Rattle.lf_lemma_check.specs.First.{first_failing, passes, proves_before}
+use Rattle.lf_lemma_check.specs.First.{first_failing, lemma_passes, proves_before}
 use Rattle.lf_lemma_check.specs.declared.searches.Asked.TheVariants.{Formula}
 use Rattle.lf_encode.specs.Encoding.{form_encoding}
 use Rattle.lf_encode.specs.Contexts.{sort_types}
@@ -74,7 +74,7 @@ formless s bound k (p ∷ ps) = if has_form s bound p.1 then formless s bound (s
 
 -- the first lemma whose formula is none, in the empty context over the signature
 abbrev pub lemma_formless : WordSignature → List (Tree × Tree) → Option ℕ
-lemma_formless s lemmas = first_failing (λ n. passes (declared s) Formula) 0 lemmas
+lemma_formless s lemmas = first_failing (λ n. lemma_passes (declared s) Formula) 0 lemmas
 
 -- the first lemma whose proof doesn't prove its formula with the lemmas before it
 abbrev pub lemma_unproved : WordSignature → List (Tree × Tree) → Option ℕ

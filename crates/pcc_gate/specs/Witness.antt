@@ -34,8 +34,8 @@ pub record DigestIsAccepted : Type 0 where
   pub accepts : Accepts (built_in Tag) bytes contents loop_code marks
 
 -- ldq r0, 0(r16);  ret
-abbrev pub load_code : List Insn
-load_code = Ldq 0 16 (pos 0) ∷ Ret ∷ []
+abbrev pub load_and_return : List Insn
+load_and_return = Ldq 0 16 (pos 0) ∷ Ret ∷ []
 
 -- some bytes hold this code with a bound of two steps, as many as it makes, and are accepted under
 -- `tag`
@@ -44,7 +44,7 @@ pub record BoundIsAccepted : Type 0 where
   pub contents : Contents
   pub marks : List Bool
   pub bound : contents.bound ≡ Some 2
-  pub accepts : Accepts (built_in Tag) bytes contents load_code marks
+  pub accepts : Accepts (built_in Tag) bytes contents load_and_return marks
 
 -- some bytes hold the loop with one lemma, which the proof cites, and are accepted under `tag`
 pub record LemmaIsAccepted : Type 0 where

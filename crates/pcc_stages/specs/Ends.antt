@@ -6,7 +6,7 @@ use Rattle.pcc_stages.specs.Exits.{Change, Exit, changed}
 use Rattle.pcc_stages.specs.Requests.{Request, Suits, command, read_fault_exit, write_fault_exit}
 
 -- The files were read, and the change made, and this is the answer.
-pub record IsAnswer (request : Request) (old new : FilesState) (exit : Exit) : Type 0 where
+pub record IsAnswered (request : Request) (old new : FilesState) (exit : Exit) : Type 0 where
   pub change : Change
   pub made : new ≡ changed change old
   pub exact : IfSome old.contents (λ files.
@@ -39,7 +39,7 @@ pub record IsWriteFault (request : Request) (old new : FilesState) (exit : Exit)
 
 -- what is decided once the files were read and written
 pub data IsDecision (request : Request) (old new : FilesState) (exit : Exit) : Type 0 where
-  answered : IsAnswer request old new exit → IsDecision request old new exit
+  answered : IsAnswered request old new exit → IsDecision request old new exit
   not_read : IsReadFault request old new exit → IsDecision request old new exit
   not_written : IsWriteFault request old new exit → IsDecision request old new exit
 

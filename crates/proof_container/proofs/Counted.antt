@@ -13,7 +13,7 @@ use Rattle.proof_container.specs.Contents.{Contents, lemma_roots, roots}
 use Rattle.proof_container.specs.Postorder.{entries, ArePostorder, AreEmitted}
 use Rattle.term_table.specs.Bytes.{IsBytes}
 use Rattle.proof_container.specs.Encoding.{field_bytes, entry_fields, lemma_fields, lemmas_fields, magic, policy_bytes, bound_fields, head_bytes, AreTerms}
-use Rattle.proof_container.specs.Decoding.{Fault, field_at, exact_at, between_at, raw_at, policy_at, bound_at, Front, decoded_head, entries_at, decoded_entries, invs_at, decoded_invs, lemmas_at, decoded_lemmas, first_misplaced, unless_misplaced, decoded_end}
+use Rattle.proof_container.specs.Decoding.{Fault, field_at, exact_at, between_at, raw_at, policy_at, step_bound_at, Front, decoded_head, entries_at, decoded_entries, invs_at, decoded_invs, lemmas_at, decoded_lemmas, first_misplaced, unless_misplaced, decoded_end}
 use Rattle.proof_container.proofs.Walks.{ArePostorder-different, misplaced_none}
 use Rattle.proof_container.proofs.FieldLaws.{bind_ok, guard_ok, done, ok_is, field_takes, exact_takes, exact_again, between_takes, between_again, field_there, Stands, Stands-there, Stands-again, Stands-append, Stands-split, AreFields, AreFields-append, length-field_bytes, IsPiece, piece_then, fields_piece, behind_piece, IsRaw, raw_takes, raw_again}
 use Rattle.proof_container.proofs.Sections.{entries_take, entries_again, AreInvs, invs_take, invs_again, lemmas_take, lemmas_again}
@@ -96,19 +96,19 @@ abbrev no_steps : Option ℕ
 no_steps = None
 
 no_bound : (bytes : List ℕ) (version : ℕ) (b : Option ℕ) → version ≢ 3
-    → bound_at bytes version ≡ Ok b → IsBounded bytes version b
-unfolding bound_at
+    → step_bound_at bytes version ≡ Ok b → IsBounded bytes version b
+unfolding step_bound_at
 no_bound bytes version b other e =
     let not_third : eqb version 3 ≡ false = ne_eqb version 3 other in
-    let read : bound_at bytes version ≡ done no_steps = rw not_third refl in
+    let read : step_bound_at bytes version ≡ done no_steps = rw not_third refl in
     let size : bound_size version ≡ 0 = rw not_third refl in
     let made : IsBounded bytes version None =
     record { bounded = other; small = tt; stands = tt; long = sym size } in
     subst (λ (x : Option ℕ). IsBounded bytes version x) (ok_is None b (sym read ∙ e)) made
 
 -- in version 3 it is one of its numbers
-third_bound : (bytes : List ℕ) (b : Option ℕ) → bound_at bytes 3 ≡ Ok b → IsBounded bytes 3 b
-unfolding bound_at
+third_bound : (bytes : List ℕ) (b : Option ℕ) → step_bound_at bytes 3 ≡ Ok b → IsBounded bytes 3 b
+unfolding step_bound_at
 third_bound bytes b e =
     let a = bind_ok (between_at bytes 10 1 1000000000 Count) _ b e in
     let n = between_takes bytes 10 1 1000000000 a.0 Count a.1 in
@@ -121,18 +121,18 @@ third_bound bytes b e =
     subst (λ (x : Option ℕ). IsBounded bytes 3 x) (ok_is (Some a.0) b a.2) made
 
 pub bound_takes : (bytes : List ℕ) (version : ℕ) (b : Option ℕ)
-    → bound_at bytes version ≡ Ok b → IsBounded bytes version b
+    → step_bound_at bytes version ≡ Ok b → IsBounded bytes version b
 bound_takes bytes version b e =
     elim (cases_eq version 3) [
       | inl third ↦
-          let there = subst (λ (v : ℕ). bound_at bytes v ≡ Ok b) third e in
+          let there = subst (λ (v : ℕ). step_bound_at bytes v ≡ Ok b) third e in
           subst (λ (v : ℕ). IsBounded bytes v b) (sym third) (third_bound bytes b there)
       | inr other ↦ no_bound bytes version b other e
     ]
 
 pub bound_again : (bytes : List ℕ) (version : ℕ) (b : Option ℕ) → IsBoundOf version b
-    → Stands bytes (2 + policy_size version) (bound_fields b) → bound_at bytes version ≡ Ok b
-unfolding bound_at
+    → Stands bytes (2 + policy_size version) (bound_fields b) → step_bound_at bytes version ≡ Ok b
+unfolding step_bound_at
 bound_again bytes version None bounded stands =
     let other : eqb version 3 ≡ false = ne_eqb version 3 bounded in
     rw other refl
@@ -141,8 +141,8 @@ bound_again bytes version (Some n) bounded stands =
     subst (λ (v : ℕ). Stands bytes (2 + policy_size v) (n ∷ [])) bounded.0 stands in
     let read : between_at bytes 10 1 1000000000 Count ≡ Ok n =
     between_again bytes 10 1 1000000000 n Count there.0 bounded.1 bounded.2 in
-    let here : bound_at bytes 3 ≡ Ok (Some n) = rw read refl in
-    subst (λ (v : ℕ). bound_at bytes v ≡ Ok (Some n)) (sym bounded.0) here
+    let here : step_bound_at bytes 3 ≡ Ok (Some n) = rw read refl in
+    subst (λ (v : ℕ). step_bound_at bytes v ≡ Ok (Some n)) (sym bounded.0) here
 
 bound_small : (version : ℕ) (b : Option ℕ) → IsBoundOf version b → AreFields (bound_fields b)
 bound_small version None bounded = tt
@@ -220,7 +220,7 @@ start_takes bytes f fits e =
     let a = bind_ok (exact_at bytes 0 magic Magic) _ f e in
     let b = bind_ok (between_at bytes 1 1 4 Version) _ f a.2 in
     let c = bind_ok (policy_at bytes b.0) _ f b.2 in
-    let n = bind_ok (bound_at bytes b.0) _ f c.2 in
+    let n = bind_ok (step_bound_at bytes b.0) _ f c.2 in
     let third : ℕ = 2 + policy_size b.0 in
     let fourth : ℕ = third + bound_size b.0 in
     let d = bind_ok (between_at bytes fourth 1 1024 Count) _ f n.2 in
@@ -273,7 +273,7 @@ read_there f b bytes j i x same place e =
 -- the parts before the entries, one after the other
 pub start_read : (bytes : List ℕ) (first words : ℕ) (f : Front)
     → exact_at bytes 0 magic Magic ≡ Ok first → between_at bytes 1 1 4 Version ≡ Ok f.version
-    → policy_at bytes f.version ≡ Ok f.head → bound_at bytes f.version ≡ Ok f.bound
+    → policy_at bytes f.version ≡ Ok f.head → step_bound_at bytes f.version ≡ Ok f.bound
     → between_at bytes (2 + policy_size f.version + bound_size f.version) 1 1024 Count ≡ Ok words
     → raw_at bytes (code_field f.version) words ≡ Ok f.code
     → f.next ≡ code_field f.version + words → decoded_head bytes ≡ Ok f
@@ -340,7 +340,7 @@ start_again bytes c words rest known named bounded long some short e =
     between_again bytes 1 1 4 v Version first.1.0 known.0 known.1 in
     let policy_is : policy_at bytes v ≡ Ok c.head =
     policy_again bytes v c.head (counts ++ (c.code ++ rest)) named at_policy in
-    let bound_is : bound_at bytes v ≡ Ok c.bound =
+    let bound_is : step_bound_at bytes v ≡ Ok c.bound =
     bound_again bytes v c.bound bounded both.0 in
     let words_there : field_at bytes (i + bound_size v) ≡ Ok words =
     field_there bytes (i + n) (i + bound_size v) words (omega (arith, size)) both.1 in

@@ -8,7 +8,7 @@ use Rattle.proof_container.specs.declared.fault.Malformed.TheVariants as malform
 use Rattle.proof_container.specs.declared.fields.Fields.{Fields}
 use Rattle.proof_container.specs.Versions.{policy_size, bound_size, code_field}
 use Rattle.proof_container.specs.Encoding.{magic}
-use Rattle.proof_container.specs.Decoding.{Fault, exact_at, between_at, raw_at, policy_at, bound_at, decoded_head}
+use Rattle.proof_container.specs.Decoding.{Fault, exact_at, between_at, raw_at, policy_at, step_bound_at, decoded_head}
 use Rattle.proof_container.specs.Inside.Cursor.{IsPast}
 use Rattle.proof_container.specs.Views.{IsFault}
 use Rattle.proof_container.proofs.Counted.{read_there}
@@ -19,7 +19,7 @@ pub record IsOpened (bytes : List ℕ) (first version : ℕ) (h : Head) (b : Opt
   pub magic_is : exact_at bytes 0 magic Magic ≡ Ok first
   pub version_is : between_at bytes 1 1 4 Version ≡ Ok version
   pub policy_is : policy_at bytes version ≡ Ok h
-  pub bound_is : bound_at bytes version ≡ Ok b
+  pub bound_is : step_bound_at bytes version ≡ Ok b
   pub bytes_are : behind.bytes.now ≡ bytes
   pub place : behind.read ≡ 2 + policy_size version + bound_size version
 
@@ -28,7 +28,7 @@ pub opened : (f0 f1 f2 f3 f4 : Fields) (first version : ℕ) (h : Head) (b : Opt
     → exact_at f0.bytes.now f0.read magic Magic ≡ Ok first → IsPast f0 f1 1
     → between_at f1.bytes.now f1.read 1 4 Version ≡ Ok version → IsPast f1 f2 1
     → policy_at f2.bytes.now version ≡ Ok h → IsPast f2 f3 (policy_size version)
-    → bound_at f3.bytes.now version ≡ Ok b → IsPast f3 f4 (bound_size version)
+    → step_bound_at f3.bytes.now version ≡ Ok b → IsPast f3 f4 (bound_size version)
     → IsOpened f0.bytes.now first version h b f4
 opened f0 f1 f2 f3 f4 first version h b start a p q r s t u v =
     let bytes : List ℕ = f0.bytes.now in
@@ -42,7 +42,7 @@ opened f0 f1 f2 f3 f4 first version h b start a p q r s t u v =
       policy_is =
           read_there (λ b i. policy_at b version) f2.bytes.now bytes 2 2 h at_policy refl s;
       bound_is =
-          read_there (λ z i. bound_at z version) f3.bytes.now bytes 2 2 b at_bound refl u;
+          read_there (λ z i. step_bound_at z version) f3.bytes.now bytes 2 2 b at_bound refl u;
       bytes_are = v.bytes ∙ at_bound;
       place = omega (arith, start, p.read, r.read, t.read, v.read);
     }
@@ -105,7 +105,7 @@ policy_fault f0 f1 f2 first version e start a p q r given =
 
 bound_wrong : (bytes : List ℕ) (first version : ℕ) (h : Head) (e : Malformed)
     → exact_at bytes 0 magic Magic ≡ Ok first → between_at bytes 1 1 4 Version ≡ Ok version
-    → policy_at bytes version ≡ Ok h → IsFault (bound_at bytes version) e → IsFault (decoded_head bytes) e
+    → policy_at bytes version ≡ Ok h → IsFault (step_bound_at bytes version) e → IsFault (decoded_head bytes) e
 unfolding decoded_head
 bound_wrong bytes first version h (malformed.At offset flaw) a q s given = rw (a, q, s, given) refl
 bound_wrong bytes first version h malformed.Memory a q s given = tt
@@ -114,7 +114,7 @@ pub bound_fault : (f0 f1 f2 f3 : Fields) (first version : ℕ) (h : Head) (e : M
     → exact_at f0.bytes.now f0.read magic Magic ≡ Ok first → IsPast f0 f1 1
     → between_at f1.bytes.now f1.read 1 4 Version ≡ Ok version → IsPast f1 f2 1
     → policy_at f2.bytes.now version ≡ Ok h → IsPast f2 f3 (policy_size version)
-    → IsFault (bound_at f3.bytes.now version) e → IsFault (decoded_head f0.bytes.now) e
+    → IsFault (step_bound_at f3.bytes.now version) e → IsFault (decoded_head f0.bytes.now) e
 bound_fault f0 f1 f2 f3 first version h e start a p q r s t given =
     let bytes : List ℕ = f0.bytes.now in
     let at_policy : f2.bytes.now ≡ bytes = r.bytes ∙ p.bytes in
@@ -123,7 +123,7 @@ bound_fault f0 f1 f2 f3 first version h e start a p q r s t given =
     (read_there (λ b i. between_at b i 1 4 Version) f1.bytes.now bytes f1.read 1 version p.bytes
     (omega (arith, start, p.read)) q)
     (read_there (λ b i. policy_at b version) f2.bytes.now bytes 2 2 h at_policy refl s)
-    (fault_there (λ b i. bound_at b version) f3.bytes.now bytes 2 2 e (t.bytes ∙ at_policy) refl given)
+    (fault_there (λ b i. step_bound_at b version) f3.bytes.now bytes 2 2 e (t.bytes ∙ at_policy) refl given)
 
 module _
     (bytes : List ℕ)

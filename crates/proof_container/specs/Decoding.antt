@@ -13,7 +13,7 @@ use Rattle.proof_container.specs.declared.fault.Flaw.TheVariants.{Cut, Magic, Ve
 use Rattle.proof_container.specs.Versions.{policy_size, bound_size, code_field, lemmas_size}
 use Rattle.proof_container.specs.Contents.{Contents, roots}
 use Rattle.proof_container.specs.Postorder.{is_emitted, entries}
-use Rattle.proof_container.specs.declared.limits.TheConstants.{MAX_VERSION, MAX_BOUND, MAX_WORDS, MAX_ENTRIES, MAX_INVS, MAX_LEMMAS}
+use Rattle.proof_container.specs.declared.limits.TheConstants.{MAX_BYTES, MAX_VERSION, MAX_BOUND, MAX_WORDS, MAX_ENTRIES, MAX_INVS, MAX_LEMMAS}
 use Rattle.proof_container.specs.Encoding.{magic}
 
 -- an offset, and what is wrong there
@@ -59,8 +59,8 @@ policy_at bytes version =
     else raw_at bytes 2 (policy_size version) >>= (λ d. Ok (Digest d))
 
 -- how many steps the code makes at most, where the version bounds them
-unfoldable pub bound_at : List ℕ → ℕ → Result (Option ℕ) Fault
-bound_at bytes version =
+unfoldable pub step_bound_at : List ℕ → ℕ → Result (Option ℕ) Fault
+step_bound_at bytes version =
     if version == 3
     then between_at bytes (2 + policy_size version) 1 MAX_BOUND Count >>= (λ n. Ok (Some n))
     else Ok None
@@ -79,7 +79,7 @@ decoded_head bytes = do
   first ← exact_at bytes 0 magic Magic
   version ← between_at bytes 1 1 MAX_VERSION Version
   head ← policy_at bytes version
-  bound ← bound_at bytes version
+  bound ← step_bound_at bytes version
   words ← between_at bytes (2 + policy_size version + bound_size version) 1 MAX_WORDS Count
   code ← raw_at bytes (code_field version) words
   Ok (record {
@@ -257,3 +257,17 @@ decoded_container bytes = do
         lemmas = lemmas;
         proof = proof;
       })
+
+-- ---- where a fault is one of several that a caller has
+
+-- what was read, a fault being told by its offset and what is wrong there
+abbrev pub contents_or : {E : Type 0} → (ℕ → Flaw → E) → Result Contents Fault → Result Contents E
+contents_or malformed (Ok c) = Ok c
+contents_or malformed (Err fault) = Err (malformed fault.0 fault.1)
+
+-- what the bytes hold, where they aren't too many for a container
+abbrev pub contents_within : {E : Type 0} → (ℕ → E) → (ℕ → Flaw → E) → List ℕ → Result Contents E
+contents_within too_long malformed bytes =
+    if nat_lt MAX_BYTES (length bytes)
+    then Err (too_long (length bytes))
+    else contents_or malformed (decoded_container bytes)

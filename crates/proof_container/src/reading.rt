@@ -8,7 +8,7 @@ ghost use Rattle.term_table.specs.Table.{IsKnown, AllKnown, tree_at, id_trees};
 ghost use Rattle.lf_lemmas.specs.Tables.{lemmas_in, LemmasKnown};
 ghost use Rattle.proof_container.specs.Versions.{policy_size, bound_size, lemmas_size};
 ghost use Rattle.proof_container.specs.Encoding.{EncodesContents};
-ghost use Rattle.proof_container.specs.Decoding.{policy_at, bound_at, decoded_head};
+ghost use Rattle.proof_container.specs.Decoding.{policy_at, step_bound_at, decoded_head};
 ghost use Rattle.proof_container.specs.Decoding.{inv_at, invs_at, decoded_invs, decoded_proof};
 ghost use Rattle.proof_container.specs.Decoding.{lemmas_at, decoded_lemmas};
 ghost use Rattle.proof_container.specs.Decoding.{first_misplaced, entry_offset, decoded_end};
@@ -57,10 +57,10 @@ fn policy(fields: &mut Fields<'_>, version: u32) -> Result<Head, Malformed>
 }
 
 /// How many steps the code makes at most, if this version bounds them: the next field.
-#[tactic(auto, unfolding(crate::specs::Decoding::bound_at))]
+#[tactic(auto, unfolding(crate::specs::Decoding::step_bound_at))]
 fn bound(fields: &mut Fields<'_>, version: u32) -> Result<Option<u32>, Malformed>
     requires place { fields.old.read ≡ 2 + policy_size version }
-    ensures read { Decodes (λ b. b) (bound_at fields.old.bytes.now version) result }
+    ensures read { Decodes (λ b. b) (step_bound_at fields.old.bytes.now version) result }
     ensures moves { OnOk result (IsPast fields.old fields.new (bound_size version)) }
 {
     if version != 3 {

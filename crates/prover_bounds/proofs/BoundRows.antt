@@ -11,7 +11,7 @@ use Rattle.prover_ids.proofs.KeptRows.{right-more}
 use Rattle.prover_class.specs.Hypotheses.{Hyps}
 use Rattle.prover_class.specs.Bounds.{WordBound}
 use Rattle.prover_bounds.specs.Lasting.{row-lasts}
-use Rattle.prover_bounds.specs.BoundIds.{IsBoundOf, bound_by_ids}
+use Rattle.prover_bounds.specs.BoundIds.{IsWordBound, bound_by_ids}
 use Rattle.prover_bounds.specs.KeptBounds.{IsBoundRow, IsKept, AreBounds}
 use Rattle.prover_bounds.specs.declared.bounds.Bound.{Bound}
 use Rattle.prover_bounds.specs.declared.bounds.Side.{Side}
@@ -19,11 +19,11 @@ use Rattle.prover_bounds.specs.declared.choices.Choice.{Choice}
 use Rattle.prover_bounds.specs.declared.kept_bounds.KeptBounds.{KeptBounds}
 
 -- a bound stays one
-pub bound-more : {t u : TableView} {w : WordBound} {b : Bound} → IsBoundOf t w b → Extends t u → IsBoundOf u w b
+pub bound-more : {t u : TableView} {w : WordBound} {b : Bound} → IsWordBound t w b → Extends t u → IsWordBound u w b
 bound-more h e = record { known = omega (arith, h.known, e.longer); value = h.value; is = e.same _ h.known ∙ h.is }
 
 -- a bound is its word and its proof
-pub bound_is : {u : TableView} {w : WordBound} {b : Bound} → IsBoundOf u w b → bound_by_ids u b ≡ w
+pub bound_is : {u : TableView} {w : WordBound} {b : Bound} → IsWordBound u w b → bound_by_ids u b ≡ w
 bound_is h = λ i. record { value = h.value i; proof = h.is i }
 
 -- what is kept lasts as the table grows

@@ -5,7 +5,7 @@ use Rattle.prover_class.specs.Bounds.{WordBound, word_bound}
 use Rattle.prover_bounds.specs.declared.bounds.Bound.{Bound}
 
 -- the word is the bound's, and the id stands for its proof
-pub record IsBoundOf (t : TableView) (w : WordBound) (b : Bound) : Type 0 where
+pub record IsWordBound (t : TableView) (w : WordBound) (b : Bound) : Type 0 where
   pub known : IsKnown t b.proof
   pub value : b.value ≡ w.value
   pub is : tree_at t b.proof ≡ w.proof

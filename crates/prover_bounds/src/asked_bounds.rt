@@ -11,7 +11,7 @@ ghost use Rattle.lf_terms.specs.Encoding.{exp_encoding};
 ghost use Rattle.prover_ids.specs.Hypotheses.{AreKnownHyps, AreHyps};
 ghost use Rattle.prover_class.specs.Hypotheses.{Hyps};
 ghost use Rattle.prover_class.specs.Bounds.{lower_bound, upper_bound};
-ghost use Rattle.prover_bounds.specs.BoundIds.{IsBoundOf};
+ghost use Rattle.prover_bounds.specs.BoundIds.{IsWordBound};
 ghost use Rattle.prover_bounds.specs.KeptBounds.{AreBounds};
 
 use crate::best_bounds::{best_bound, choice_of, made};
@@ -116,7 +116,7 @@ pub fn upper_bound(
     ensures known { IfOk result (λ b. IsKnown table.new b.proof) }
     ensures exact { (Γ : Hyps) (x : Exp) → AreHyps table.old hyps.now Γ
         → tree_at table.old e ≡ exp_encoding x
-        → IfOk result (IsBoundOf table.new (upper_bound Γ x)) }
+        → IfOk result (IsWordBound table.new (upper_bound Γ x)) }
     ensures extends { Extends table.old table.new }
     ensures memo { IsMemo table.new memo.new }
     ensures left { OnOk result (left_of memo.new ≤ left_of memo.old) }
@@ -147,7 +147,7 @@ pub fn lower_bound(
     ensures known { IfOk result (λ b. IsKnown table.new b.proof) }
     ensures exact { (Γ : Hyps) (x : Exp) → AreHyps table.old hyps.now Γ
         → tree_at table.old e ≡ exp_encoding x
-        → IfOk result (IsBoundOf table.new (lower_bound counted Γ x)) }
+        → IfOk result (IsWordBound table.new (lower_bound counted Γ x)) }
     ensures extends { Extends table.old table.new }
     ensures memo { IsMemo table.new memo.new }
     ensures left { let steps = length hyps.now in

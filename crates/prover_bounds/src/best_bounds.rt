@@ -13,7 +13,7 @@ ghost use Rattle.prover_ids.specs.Hypotheses.{AreKnownHyps, AreHyps};
 ghost use Rattle.prover_class.specs.Hypotheses.{Hyps};
 ghost use Rattle.prover_class.specs.Bounds.{upper_bound, lower_bound};
 ghost use Rattle.prover_bounds.specs.declared.bounds.Side.TheVariants.{Upper, Lower};
-ghost use Rattle.prover_bounds.specs.BoundIds.{IsBoundOf};
+ghost use Rattle.prover_bounds.specs.BoundIds.{IsWordBound};
 ghost use Rattle.prover_bounds.specs.Candidates.{by_parts};
 ghost use Rattle.prover_bounds.specs.Choices.{IsChoice, chosen};
 ghost use Rattle.prover_bounds.specs.KeptBounds.{AreBounds, bound_from};
@@ -167,7 +167,7 @@ pub(crate) fn best_bound(
     ensures known { IfOk result (λ b. IsKnown table.new b.proof) }
     ensures exact { (Γ : Hyps) (x : Exp) → AreHyps table.old hyps.now Γ
         → tree_at table.old e ≡ exp_encoding x
-        → IfOk result (IsBoundOf table.new (bound_from side Γ x)) }
+        → IfOk result (IsWordBound table.new (bound_from side Γ x)) }
     ensures extends { Extends table.old table.new }
     ensures memo { IsMemo table.new memo.new }
     ensures left { OnOk result (left_of memo.new ≤ left_of memo.old) }
@@ -203,7 +203,7 @@ pub(crate) fn made(
     ensures known { IfOk result (λ b. IsKnown table.new b.proof) }
     ensures exact { (Γ : Hyps) (x : Exp) → AreHyps table.old hyps.now Γ
         → tree_at table.old e ≡ exp_encoding x
-        → IfOk result (IsBoundOf table.new (chosen side Γ x by)) }
+        → IfOk result (IsWordBound table.new (chosen side Γ x by)) }
     ensures extends { Extends table.old table.new }
     ensures memo { IsMemo table.new memo.new }
     ensures left { OnOk result (left_of memo.new ≤ left_of memo.old) }
@@ -235,7 +235,7 @@ fn made_by_parts(
     ensures known { IfOk result (λ b. IsKnown table.new b.proof) }
     ensures exact { (Γ : Hyps) (x : Exp) → AreHyps table.old hyps.now Γ
         → tree_at table.old e ≡ exp_encoding x
-        → IfOk result (IsBoundOf table.new (by_parts Γ x how)) }
+        → IfOk result (IsWordBound table.new (by_parts Γ x how)) }
     ensures extends { Extends table.old table.new }
     ensures memo { IsMemo table.new memo.new }
     ensures left { OnOk result (left_of memo.new ≤ left_of memo.old) }

@@ -11,7 +11,7 @@ ghost use Rattle.word_ops.specs.declared.Rel.TheVariants.{Ule};
 ghost use Rattle.formula_tree.specs.Formulas.{Exp, EVar, ELit, EOp, FRel};
 ghost use Rattle.lf_terms.specs.Encoding.{exp_encoding, form_encoding};
 ghost use Rattle.prover_class.specs.Bounds.{fit_proof};
-ghost use Rattle.prover_bounds.specs.BoundIds.{IsBoundOf};
+ghost use Rattle.prover_bounds.specs.BoundIds.{IsWordBound};
 ghost use Rattle.prover_bounds.specs.Candidates.{placed, folded_at};
 
 use hereditary_subst::{Exhausted, Memo};
@@ -105,7 +105,7 @@ pub(crate) fn folded(
     requires memo { IsMemo table.old memo.old }
     ensures known { IfOk result (λ b. IsKnown table.new b.proof) }
     ensures is { (x : Exp) → tree_at table.old e ≡ exp_encoding x
-        → IfOk result (IsBoundOf table.new (folded_at side x op v w (tree_at table.old proof))) }
+        → IfOk result (IsWordBound table.new (folded_at side x op v w (tree_at table.old proof))) }
     ensures extends { Extends table.old table.new }
     ensures memo { IsMemo table.new memo.new }
     ensures left { OnOk result (left_of memo.new ≤ left_of memo.old) }

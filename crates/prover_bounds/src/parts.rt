@@ -8,7 +8,7 @@ ghost use Rattle.hereditary_subst.specs.Kept.{IsMemo};
 ghost use Rattle.hereditary_subst.specs.Limits.{left_of};
 ghost use Rattle.formula_tree.specs.Formulas.{Exp, ELit};
 ghost use Rattle.lf_terms.specs.Encoding.{exp_encoding};
-ghost use Rattle.prover_bounds.specs.BoundIds.{IsBoundOf, bound_by_ids};
+ghost use Rattle.prover_bounds.specs.BoundIds.{IsWordBound, bound_by_ids};
 ghost use Rattle.prover_bounds.specs.Candidates.{limit, by_word, by_itself, by_side, by_left, by_right_shift, by_left_shift, by_sum, by_difference, capped_at, ceiling_of, by_ceiling};
 ghost use Rattle.prover_bounds.specs.Choices.{AreParts, IsDifference};
 
@@ -107,7 +107,7 @@ pub(crate) fn limit(table: &mut Table, side: Side, e: Id) -> Result<Bound, Exhau
     requires { IsKnown table.old e }
     ensures known { IfOk result (λ b. IsKnown table.new b.proof) }
     ensures is { (x : Exp) → tree_at table.old e ≡ exp_encoding x
-        → IfOk result (IsBoundOf table.new (limit side x)) }
+        → IfOk result (IsWordBound table.new (limit side x)) }
     ensures extends { Extends table.old table.new }
 {
     match side {
@@ -130,7 +130,7 @@ fn by_word(table: &mut Table, e: Id, w: u64) -> Result<Bound, Exhausted>
     requires { IsKnown table.old e }
     ensures known { IfOk result (λ b. IsKnown table.new b.proof) }
     ensures is { tree_at table.old e ≡ exp_encoding (ELit w)
-        → IfOk result (IsBoundOf table.new (by_word w)) }
+        → IfOk result (IsWordBound table.new (by_word w)) }
     ensures extends { Extends table.old table.new }
 {
     let proof = rule_term(table, ULE_REFL, &[e])?;
@@ -142,7 +142,7 @@ pub(crate) fn by_itself(table: &mut Table, side: Side, e: Id) -> Result<Bound, E
     requires { IsKnown table.old e }
     ensures known { IfOk result (λ b. IsKnown table.new b.proof) }
     ensures is { (x : Exp) → tree_at table.old e ≡ exp_encoding x
-        → IfOk result (IsBoundOf table.new (by_itself side x)) }
+        → IfOk result (IsWordBound table.new (by_itself side x)) }
     ensures extends { Extends table.old table.new }
 {
     match literal(table, e) {
@@ -187,7 +187,7 @@ pub(crate) fn by_ceiling(
     ensures known { IfOk result (λ b. IsKnown table.new b.proof) }
     ensures is { (x y : Exp) → tree_at table.old a ≡ exp_encoding x
         → tree_at table.old b ≡ exp_encoding y
-        → IfOk result (IsBoundOf table.new (by_ceiling ceiling x y)) }
+        → IfOk result (IsWordBound table.new (by_ceiling ceiling x y)) }
     ensures extends { Extends table.old table.new }
 {
     let proof = rule_term(table, ceiling.rule, &[a, b])?;
@@ -217,7 +217,7 @@ pub(crate) fn by_side(
     ensures is { (x y z s : Exp) → tree_at table.old e ≡ exp_encoding x
         → tree_at table.old a ≡ exp_encoding y → tree_at table.old b ≡ exp_encoding z
         → tree_at table.old side ≡ exp_encoding s → IfOk result
-        (IsBoundOf table.new (by_side number x y z s (bound_by_ids table.old w))) }
+        (IsWordBound table.new (by_side number x y z s (bound_by_ids table.old w))) }
     ensures extends { Extends table.old table.new }
 {
     let least = rule_term(table, number, &[a, b])?;
@@ -247,7 +247,7 @@ pub(crate) fn by_left(
     ensures known { IfOk result (λ b. IsKnown table.new b.proof) }
     ensures is { (x y z : Exp) → tree_at table.old e ≡ exp_encoding x
         → tree_at table.old a ≡ exp_encoding y → tree_at table.old b ≡ exp_encoding z
-        → IfOk result (IsBoundOf table.new (by_left x y z (bound_by_ids table.old v))) }
+        → IfOk result (IsWordBound table.new (by_left x y z (bound_by_ids table.old v))) }
     ensures extends { Extends table.old table.new }
     ensures memo { IsMemo table.new memo.new }
     ensures left { OnOk result (left_of memo.new ≤ left_of memo.old) }
@@ -282,7 +282,7 @@ pub(crate) fn by_right_shift(
     ensures known { IfOk result (λ b. IsKnown table.new b.proof) }
     ensures is { (x y : Exp) → tree_at table.old e ≡ exp_encoding x
         → tree_at table.old a ≡ exp_encoding y → IfOk result
-        (IsBoundOf table.new (by_right_shift x y count (bound_by_ids table.old v))) }
+        (IsWordBound table.new (by_right_shift x y count (bound_by_ids table.old v))) }
     ensures extends { Extends table.old table.new }
     ensures memo { IsMemo table.new memo.new }
     ensures left { OnOk result (left_of memo.new ≤ left_of memo.old) }
@@ -310,7 +310,7 @@ pub(crate) fn by_left_shift(
     ensures known { IfOk result (λ b. IsKnown table.new b.proof) }
     ensures is { (x y : Exp) → tree_at table.old e ≡ exp_encoding x
         → tree_at table.old a ≡ exp_encoding y → IfOk result
-        (IsBoundOf table.new (by_left_shift x y count (bound_by_ids table.old v))) }
+        (IsWordBound table.new (by_left_shift x y count (bound_by_ids table.old v))) }
     ensures extends { Extends table.old table.new }
     ensures memo { IsMemo table.new memo.new }
     ensures left { OnOk result (left_of memo.new ≤ left_of memo.old) }
@@ -342,7 +342,7 @@ pub(crate) fn by_sum(
     ensures known { IfOk result (λ b. IsKnown table.new b.proof) }
     ensures is { (x y z : Exp) → tree_at table.old e ≡ exp_encoding x
         → tree_at table.old a ≡ exp_encoding y → tree_at table.old b ≡ exp_encoding z
-        → IfOk result (IsBoundOf table.new
+        → IfOk result (IsWordBound table.new
         (by_sum x y z (bound_by_ids table.old v) (bound_by_ids table.old w))) }
     ensures extends { Extends table.old table.new }
     ensures memo { IsMemo table.new memo.new }
@@ -381,7 +381,7 @@ pub(crate) fn by_difference(
     ensures known { IfOk result (λ b. IsKnown table.new b.proof) }
     ensures is { (x y : Exp) → tree_at table.old e ≡ exp_encoding x
         → tree_at table.old a ≡ exp_encoding y → IfOk result
-        (IsBoundOf table.new (by_difference x y w (bound_by_ids table.old v))) }
+        (IsWordBound table.new (by_difference x y w (bound_by_ids table.old v))) }
     ensures extends { Extends table.old table.new }
     ensures memo { IsMemo table.new memo.new }
     ensures left { OnOk result (left_of memo.new ≤ left_of memo.old) }

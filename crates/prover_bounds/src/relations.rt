@@ -12,7 +12,7 @@ ghost use Rattle.prover_ids.specs.Hypotheses.{AreKnownHyps, AreHyps};
 ghost use Rattle.prover_class.specs.Hypotheses.{Hyps};
 ghost use Rattle.prover_bounds.specs.declared.bounds.Side.TheVariants.{Upper, Lower};
 ghost use Rattle.prover_bounds.specs.declared.relations.Kind.TheVariants.{Less};
-ghost use Rattle.prover_bounds.specs.BoundIds.{IsBoundOf};
+ghost use Rattle.prover_bounds.specs.BoundIds.{IsWordBound};
 ghost use Rattle.prover_bounds.specs.Candidates.{by_less, by_more, by_equal, by_relation};
 ghost use Rattle.prover_bounds.specs.Choices.{IsRelated, IsToWord, by_first};
 
@@ -156,7 +156,7 @@ fn by_less(
     ensures known { IfOk result (λ b. IsKnown table.new b.proof) }
     ensures is { (x : Exp) → tree_at table.old e ≡ exp_encoding x
         → tree_at table.old word ≡ exp_encoding (ELit w)
-        → IfOk result (IsBoundOf table.new (by_less x w (tree_at table.old proof))) }
+        → IfOk result (IsWordBound table.new (by_less x w (tree_at table.old proof))) }
     ensures extends { Extends table.old table.new }
     ensures memo { IsMemo table.new memo.new }
     ensures left { OnOk result (left_of memo.new ≤ left_of memo.old) }
@@ -173,7 +173,7 @@ fn by_more(table: &mut Table, e: Id, w: u64, word: Id, proof: Id) -> Result<Boun
     ensures known { IfOk result (λ b. IsKnown table.new b.proof) }
     ensures is { (x : Exp) → tree_at table.old e ≡ exp_encoding x
         → tree_at table.old word ≡ exp_encoding (ELit w)
-        → IfOk result (IsBoundOf table.new (by_more x w (tree_at table.old proof))) }
+        → IfOk result (IsWordBound table.new (by_more x w (tree_at table.old proof))) }
     ensures extends { Extends table.old table.new }
 {
     let bound = rule_term(table, ULT_ULE, &[word, e, proof])?;
@@ -201,7 +201,7 @@ fn by_equal(
     ensures known { IfOk result (λ b. IsKnown table.new b.proof) }
     ensures is { (x : Exp) → tree_at table.old e ≡ exp_encoding x
         → tree_at table.old word ≡ exp_encoding (ELit w)
-        → IfOk result (IsBoundOf table.new (by_equal side x w (tree_at table.old proof))) }
+        → IfOk result (IsWordBound table.new (by_equal side x w (tree_at table.old proof))) }
     ensures extends { Extends table.old table.new }
     ensures memo { IsMemo table.new memo.new }
     ensures left { OnOk result (left_of memo.new ≤ left_of memo.old) }
@@ -233,7 +233,7 @@ fn by_relation(
     ensures known { IfOk result (λ b. IsKnown table.new b.proof) }
     ensures is { (x : Exp) → tree_at table.old e ≡ exp_encoding x
         → tree_at table.old word ≡ exp_encoding (ELit related.value)
-        → IfOk result (IsBoundOf table.new
+        → IfOk result (IsWordBound table.new
         (by_relation side related.kind x related.value (tree_at table.old proof))) }
     ensures extends { Extends table.old table.new }
     ensures memo { IsMemo table.new memo.new }
@@ -266,7 +266,7 @@ pub(crate) fn by_hypothesis(
     ensures known { IfOk result (λ b. IsKnown table.new b.proof) }
     ensures is { (Γ : Hyps) (x : Exp) → AreHyps table.old hyps.now Γ
         → tree_at table.old e ≡ exp_encoding x
-        → IfOk result (IsBoundOf table.new (by_first side x (drop at Γ))) }
+        → IfOk result (IsWordBound table.new (by_first side x (drop at Γ))) }
     ensures extends { Extends table.old table.new }
     ensures memo { IsMemo table.new memo.new }
     ensures left { OnOk result (left_of memo.new ≤ left_of memo.old) }

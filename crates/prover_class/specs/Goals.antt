@@ -73,7 +73,7 @@ masked a w =
     let e = EOp Band (EOp Band a (ELit w)) (ELit 7) in
     let inner = EOp Band (ELit w) (ELit 7) in
     let first =
-        move (FRel Eq (up e) (EVar 0)) e (EOp Band a inner) (word_rule AND_ASSOC (a ∷ ELit w ∷ ELit 7 ∷ []) []) (eq_refl e) in
+    move (FRel Eq (up e) (EVar 0)) e (EOp Band a inner) (word_rule AND_ASSOC (a ∷ ELit w ∷ ELit 7 ∷ []) []) (eq_refl e) in
     let second = move (FRel Eq (up e) (EOp Band (up a) (EVar 0))) inner (ELit 0) (calc Band w 7) first in
     move (FRel Eq (up e) (EVar 0)) (EOp Band a (ELit 0)) (ELit 0) (word_rule AND_ZERO (a ∷ []) []) second
 

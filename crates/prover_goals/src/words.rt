@@ -13,7 +13,7 @@ ghost use Rattle.prover_class.specs.Hypotheses.{Hyps};
 ghost use Rattle.prover_class.specs.Bounds.{upper_bound, lower_bound};
 ghost use Rattle.prover_class.specs.NormalForms.{normal_form};
 ghost use Rattle.prover_class.specs.Goals.{ule_by, ult_by, by_aligned, by_bounds, by_normal, by_words_alone};
-ghost use Rattle.prover_bounds.specs.BoundIds.{IsBoundOf, bound_by_ids};
+ghost use Rattle.prover_bounds.specs.BoundIds.{IsWordBound, bound_by_ids};
 ghost use Rattle.prover_sums.specs.NormalForms.{IsKnownRewritten, IsRewritten};
 ghost use Rattle.prover_goals.specs.Provers.{IsProofBy};
 ghost use Rattle.prover_goals.specs.Search.{IsSearch, IsContext, IsAfter};
@@ -126,7 +126,7 @@ fn upper(
     ensures known { IfOk result (λ b. IsKnown table.new b.proof) }
     ensures exact { (Γ : Hyps) (x : Exp) → AreHyps table.old context.old.hyps Γ
         → tree_at table.old e ≡ exp_encoding x
-        → IfOk result (IsBoundOf table.new (upper_bound Γ x)) }
+        → IfOk result (IsWordBound table.new (upper_bound Γ x)) }
     ensures extends { Extends table.old table.new }
     ensures after { OnOk result (IsAfter table.new search.new context.old context.new) }
 {
@@ -149,7 +149,7 @@ fn lower(
     ensures known { IfOk result (λ b. IsKnown table.new b.proof) }
     ensures exact { (Γ : Hyps) (x : Exp) → AreHyps table.old context.old.hyps Γ
         → tree_at table.old e ≡ exp_encoding x
-        → IfOk result (IsBoundOf table.new (lower_bound counted Γ x)) }
+        → IfOk result (IsWordBound table.new (lower_bound counted Γ x)) }
     ensures extends { Extends table.old table.new }
     ensures after { OnOk result (IsAfter table.new search.new context.old context.new) }
 {
@@ -189,8 +189,8 @@ fn bounds_of(
     ensures lower { IfOk result (λ v. IsKnown table.new v.lower.proof) }
     ensures exact { (Γ : Hyps) (x y : Exp) → AreHyps table.old context.old.hyps Γ
         → tree_at table.old a ≡ exp_encoding x → tree_at table.old b ≡ exp_encoding y
-        → IfOk result (λ v. IsBoundOf table.new (upper_bound Γ x) v.upper
-        × IsBoundOf table.new (lower_bound counted Γ y) v.lower) }
+        → IfOk result (λ v. IsWordBound table.new (upper_bound Γ x) v.upper
+        × IsWordBound table.new (lower_bound counted Γ y) v.lower) }
     ensures extends { Extends table.old table.new }
     ensures after { OnOk result (IsAfter table.new search.new context.old context.new) }
 {

@@ -17,7 +17,7 @@ use Rattle.prover_forms.proofs.Parts.{subst-up_exp}
 use Rattle.prover_sums.specs.declared.rewriting.Rewrite.{Rewrite}
 use Rattle.prover_sums.specs.declared.rewriting.Rewrites.{Rewrites}
 use Rattle.prover_sums.specs.declared.rewriting.Rewrites.TheVariants as R
-use Rattle.prover_sums.specs.Inside.Rewrites.{IsKnownRewrite, IsRewrite, AreKnownRewrites, AreRewrites, whole_of, commuted_of, regrouped_of, ungrouped_of, left_of, right_of, has_rewrites}
+use Rattle.prover_sums.specs.Inside.Rewrites.{IsKnownRewrite, IsRewrite, AreKnownRewrites, AreRewrites, whole_of, commuted_of, regrouped_of, ungrouped_of, left_rewriting, right_rewriting, has_rewrites}
 use Rattle.std.proofs.lemmas.Bool.{false≢true}
 
 pub known_rewrite-more : {t u : TableView} {s : Rewrite} → IsKnownRewrite t s → Extends t u → IsKnownRewrite u s
@@ -41,7 +41,7 @@ rewrite-more t u step s k e h = record {
 -- t, u, w: before, with the place's formula, with the whole after it
 pub under_left_is : (t u w : TableView) (o : Op) (right above : ℕ) (step : Rewrite) (into after : ℕ) → IsKnown t right → IsKnownRewrite t step → Extends t u → Extends u w → IsIdOf u (op_term o (tree_at t step.into) (tree_at t above)) into →
     IsIdOf w (op_term o (tree_at u step.after) (tree_at u right)) after → (y : Exp) (s : Rewriting) → tree_at t right ≡ exp_encoding y → tree_at t above ≡ exp_encoding (up y) → IsRewrite t step s →
-    IsRewrite w (record { into = into; from = step.from; to = step.to; proof = step.proof; after = after }) (left_of o y s)
+    IsRewrite w (record { into = into; from = step.from; to = step.to; proof = step.proof; after = after }) (left_rewriting o y s)
 under_left_is t u w o right above step into after kr ks tu uw at_into at_after y s qy qa h =
     let tw = grows_more t u w tu uw in record {
       into = uw.same into at_into.known ∙ at_into.is ∙ (λ i. op_term o (h.into i) (qa i));
@@ -53,7 +53,7 @@ under_left_is t u w o right above step into after kr ks tu uw at_into at_after y
 
 pub under_right_is : (t u w : TableView) (o : Op) (left above : ℕ) (step : Rewrite) (into after : ℕ) → IsKnown t left → IsKnownRewrite t step → Extends t u → Extends u w → IsIdOf u (op_term o (tree_at t above) (tree_at t step.into)) into →
     IsIdOf w (op_term o (tree_at u left) (tree_at u step.after)) after → (y : Exp) (s : Rewriting) → tree_at t left ≡ exp_encoding y → tree_at t above ≡ exp_encoding (up y) → IsRewrite t step s →
-    IsRewrite w (record { into = into; from = step.from; to = step.to; proof = step.proof; after = after }) (right_of o y s)
+    IsRewrite w (record { into = into; from = step.from; to = step.to; proof = step.proof; after = after }) (right_rewriting o y s)
 under_right_is t u w o left above step into after kl ks tu uw at_into at_after y s qy qa h =
     let tw = grows_more t u w tu uw in record {
       into = uw.same into at_into.known ∙ at_into.is ∙ (λ i. op_term o (qa i) (h.into i));
@@ -63,13 +63,13 @@ under_right_is t u w o left above step into after kl ks tu uw at_into at_after y
       after = at_after.is ∙ (λ i. op_term o ((tu.same left kl ∙ qy ∙ ap exp_encoding (sym (subst-up_exp y s.to 0))) i) ((tu.same step.after ks.after ∙ h.after) i));
     }
 
-pub in_left-map : (o : Op) (y : Exp) (l : List Rewriting) → map (left_of o y) l ≡ in_left o y l
+pub in_left-map : (o : Op) (y : Exp) (l : List Rewriting) → map (left_rewriting o y) l ≡ in_left o y l
 in_left-map o y [] = refl
-in_left-map o y (s ∷ l) = ap (◌∷◌ (left_of o y s)) (in_left-map o y l)
+in_left-map o y (s ∷ l) = ap (◌∷◌ (left_rewriting o y s)) (in_left-map o y l)
 
-pub in_right-map : (o : Op) (y : Exp) (l : List Rewriting) → map (right_of o y) l ≡ in_right o y l
+pub in_right-map : (o : Op) (y : Exp) (l : List Rewriting) → map (right_rewriting o y) l ≡ in_right o y l
 in_right-map o y [] = refl
-in_right-map o y (s ∷ l) = ap (◌∷◌ (right_of o y s)) (in_right-map o y l)
+in_right-map o y (s ∷ l) = ap (◌∷◌ (right_rewriting o y s)) (in_right-map o y l)
 
 -- the id of what was raised
 pub above_is : (t u : TableView) (id above : ℕ) (y : Exp) → IsIdOf u (shift 1 0 (tree_at t id)) above → tree_at t id ≡ exp_encoding y → tree_at u above ≡ exp_encoding (up y)
@@ -136,7 +136,7 @@ pub turned_is : (t u v p q r w : TableView) (e a b c above sum : ℕ) (first ste
     ((x y z : Exp) → tree_at t e ≡ exp_encoding (EOp Add x (EOp Add y z)) → tree_at t a ≡ exp_encoding x → tree_at t b ≡ exp_encoding y → tree_at t c ≡ exp_encoding z → IsRewrite u first (ungrouped_of x y z)) →
     IsIdOf v (shift 1 0 (tree_at u c)) above → IsIdOf p (op_term Add (tree_at v a) (tree_at v b)) sum →
     ((f x y : Exp) → tree_at p sum ≡ exp_encoding f → tree_at p a ≡ exp_encoding x → tree_at p b ≡ exp_encoding y → IsRewrite q step (commuted_of f x y)) →
-    ((y : Exp) (s : Rewriting) → tree_at q c ≡ exp_encoding y → tree_at q above ≡ exp_encoding (up y) → IsRewrite q step s → IsRewrite r second (left_of Add y s)) →
+    ((y : Exp) (s : Rewriting) → tree_at q c ≡ exp_encoding y → tree_at q above ≡ exp_encoding (up y) → IsRewrite q step s → IsRewrite r second (left_rewriting Add y s)) →
     ((f x y z : Exp) → tree_at r second.after ≡ exp_encoding f → tree_at r b ≡ exp_encoding x → tree_at r a ≡ exp_encoding y → tree_at r c ≡ exp_encoding z → IsRewrite w third (regrouped_of f x y z)) →
     (x y z : Exp) → tree_at t e ≡ exp_encoding (EOp Add x (EOp Add y z)) → tree_at t a ≡ exp_encoding x → tree_at t b ≡ exp_encoding y → tree_at t c ≡ exp_encoding z → AreRewrites w (R.Three first second third) (turned x y z)
 turned_is t u v p q r w e a b c above sum first step second third ka kb kc tu uv vp pq qr rw' k1 k2 at_first at_above at_sum at_step at_second at_third x y z qe qa qb qc =
@@ -153,7 +153,7 @@ turned_is t u v p q r w e a b c above sum first step second third ka kb kc tu uv
     let after : tree_at r second.after ≡ exp_encoding (EOp Add (EOp Add y x) z) = two.after ∙ ap (λ k. exp_encoding (EOp Add (EOp Add y x) k)) (subst-up_exp z (EOp Add y x) 0) in
     let three = at_third (EOp Add (EOp Add y x) z) y x z after (tr.same b kb ∙ qb) (tr.same a ka ∙ qa) (tr.same c kc ∙ qc) in (
       rewrite-more u w first (ungrouped_of x y z) k1 (grows_more u r w (grows_more u q r (grows_more u v q uv vq) qr) rw') one,
-      rewrite-more r w second (left_of Add z (commuted_of (EOp Add x y) x y)) k2 rw' two,
+      rewrite-more r w second (left_rewriting Add z (commuted_of (EOp Add x y) x y)) k2 rw' two,
       three,
     )
 

@@ -26,8 +26,8 @@ ghost use Rattle.prover_sums.specs.Inside.Rewrites.{
   regrouped_of,
   commuted_of,
   ungrouped_of,
-  left_of,
-  right_of,
+  left_rewriting,
+  right_rewriting,
   has_rewrites,
 };
 
@@ -296,7 +296,7 @@ fn under_left(
     ensures known { IfOk result (IsKnownRewrite table.new) }
     ensures exact { (y : Exp) (s : Rewriting) → tree_at table.old right ≡ exp_encoding y
         → tree_at table.old above ≡ exp_encoding (up y) → IsRewrite table.old step s
-        → IfOk result (λ r. IsRewrite table.new r (left_of op y s)) }
+        → IfOk result (λ r. IsRewrite table.new r (left_rewriting op y s)) }
     ensures extends { Extends table.old table.new }
 {
     let into = oper(table, op, step.into, above)?;
@@ -324,7 +324,7 @@ fn under_right(
     ensures known { IfOk result (IsKnownRewrite table.new) }
     ensures exact { (y : Exp) (s : Rewriting) → tree_at table.old left ≡ exp_encoding y
         → tree_at table.old above ≡ exp_encoding (up y) → IsRewrite table.old step s
-        → IfOk result (λ r. IsRewrite table.new r (right_of op y s)) }
+        → IfOk result (λ r. IsRewrite table.new r (right_rewriting op y s)) }
     ensures extends { Extends table.old table.new }
 {
     let into = oper(table, op, above, step.into)?;

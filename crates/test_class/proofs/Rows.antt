@@ -9,7 +9,7 @@ use Rattle.test_class.specs.Forms.{form_rows}
 use Rattle.test_class.specs.Bounds.{bound_rows}
 use Rattle.test_class.specs.Access.{access_rows}
 use Rattle.test_class.specs.Later.{later_sums, later_bits, later_bytes, later_others}
-use Rattle.test_class.specs.Counted.{counted_differences, counted_sums, uncounted}
+use Rattle.test_class.specs.Counted.{counted_differences, counted_sums, uncounted_rows}
 
 pub small_worked : AreWorked false small_rows
 unfolding normalized small_rows
@@ -94,6 +94,6 @@ pub counted_sums_worked : AreWorked true counted_sums
 unfolding normalized counted_sums
 counted_sums_worked = (refl, tt)
 
-pub uncounted_worked : AreWorked false uncounted
-unfolding normalized uncounted
+pub uncounted_worked : AreWorked false uncounted_rows
+unfolding normalized uncounted_rows
 uncounted_worked = (refl, (refl, (refl, (refl, tt))))

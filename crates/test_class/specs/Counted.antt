@@ -924,8 +924,8 @@ counted_sums =
     []
 
 -- the same where no steps are counted
-unfoldable pub uncounted : List (Form × Option Tree)
-uncounted =
+unfoldable pub uncounted_rows : List (Form × Option Tree)
+uncounted_rows =
     -- none: no rule for differences
     (
       (FAll (FImp (FRel Ule (ELit 4) (EVar 0)) (FRel Ule (ELit 3) (EOp Sub (EVar 0) (ELit 1))))),

@@ -14,7 +14,7 @@ ghost use Rattle.test_class.specs.Forms.{form_rows};
 ghost use Rattle.test_class.specs.Bounds.{bound_rows};
 ghost use Rattle.test_class.specs.Access.{access_rows};
 ghost use Rattle.test_class.specs.Later.{later_sums, later_bits, later_bytes, later_others};
-ghost use Rattle.test_class.specs.Counted.{counted_differences, counted_sums, uncounted};
+ghost use Rattle.test_class.specs.Counted.{counted_differences, counted_sums, uncounted_rows};
 
 /// States that the class gives goals and parts of conditions what a second implementation gives
 /// them: that proof, term for term, or none. An independent implementation also makes equal
@@ -34,5 +34,5 @@ pub fn worked_rows()
     ensures later_others { AreWorked false later_others }
     ensures differences { AreWorked true counted_differences }
     ensures counted_sums { AreWorked true counted_sums }
-    ensures uncounted { AreWorked false uncounted }
+    ensures uncounted { AreWorked false uncounted_rows }
 {}

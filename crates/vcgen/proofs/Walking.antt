@@ -18,7 +18,7 @@ use Rattle.lf_encode.proofs.KeptRows.{ready-more, ready-same, kept-ready}
 use Rattle.vcgen.specs.declared.symbols.Symbols.{Symbols}
 use Rattle.vcgen.specs.WalkTree.{with_reg, with_memory, with_left, one_less, InsnEffect, Computed, Access, Split, Jump, Return, insn_effect, walked_on, walked, walked_at, ended}
 use Rattle.vcgen.proofs.MachineRegs.{inv_term-is}
-use Rattle.vcgen.specs.Symbols.{ids_of, inv_id, AreInvs, IsProgram, StandFor, IsEffect}
+use Rattle.vcgen.specs.Symbols.{ids_of, inv_id, AreInvs, IsKnownProgram, StandFor, IsEffect}
 use Rattle.vcgen.specs.Inside.Walks.{IsWalking}
 use Rattle.vcgen.specs.declared.effects.Effect.TheVariants as E
 use Rattle.lf_signature.specs.Nodes.{IsIdOf}
@@ -27,7 +27,7 @@ invs-more : (t u : TableView) (ids : List (ℕ × ℕ)) → AreInvs t ids → Ex
 invs-more t u [] h e = tt
 invs-more t u (p ∷ ids) h e = (omega (arith, h.0, e.longer), subst (λ z. height_of z < 2 ^ 31) (sym (e.same p.1 h.0)) h.1, invs-more t u ids h.2 e)
 
-pub program-more : (t u : TableView) (insns : List Insn) (ids : List (ℕ × ℕ)) (at_end : ℕ) → IsProgram t insns ids at_end → Extends t u → IsProgram u insns ids at_end
+pub program-more : (t u : TableView) (insns : List Insn) (ids : List (ℕ × ℕ)) (at_end : ℕ) → IsKnownProgram t insns ids at_end → Extends t u → IsKnownProgram u insns ids at_end
 program-more t u insns ids at_end h e = record {
   code = h.code;
   invs = invs-more t u ids h.invs e;
@@ -107,12 +107,12 @@ module _ (bound : Option ℕ) (t : TableView) (insns : List Insn) (ids : List (�
       ∙ sym (ap (λ k. walked_at bound (walked bound insns (id_trees t ids) post k) post i (slice_get insns i) s) less)
 
 -- a walk by a later table's ids is the one by an earlier table's
-pub walk-same : (bound : Option ℕ) (t u : TableView) (insns : List Insn) (ids : List (ℕ × ℕ)) (at_end n i : ℕ) (s z : MachineTerms) → IsProgram t insns ids at_end → Extends t u → s ≡ z →
+pub walk-same : (bound : Option ℕ) (t u : TableView) (insns : List Insn) (ids : List (ℕ × ℕ)) (at_end n i : ℕ) (s z : MachineTerms) → IsKnownProgram t insns ids at_end → Extends t u → s ≡ z →
     walked bound insns (id_trees u ids) (tree_at u at_end) n i s ≡ walked bound insns (id_trees t ids) (tree_at t at_end) n i z
 walk-same bound t u insns ids at_end n i s z h e q k = walked bound insns (invs-same t u ids h.invs e k) (e.same at_end h.post k) n i (q k)
 
 -- the same of the walk from an instruction whose step isn't counted
-pub walked_at-same : (bound : Option ℕ) (t u : TableView) (insns : List Insn) (ids : List (ℕ × ℕ)) (at_end n i : ℕ) (o : Option Insn) (s z : MachineTerms) → IsProgram t insns ids at_end → Extends t u → s ≡ z →
+pub walked_at-same : (bound : Option ℕ) (t u : TableView) (insns : List Insn) (ids : List (ℕ × ℕ)) (at_end n i : ℕ) (o : Option Insn) (s z : MachineTerms) → IsKnownProgram t insns ids at_end → Extends t u → s ≡ z →
     walked_at None (walked bound insns (id_trees u ids) (tree_at u at_end) n) (tree_at u at_end) i o s ≡ walked_at None (walked bound insns (id_trees t ids) (tree_at t at_end) n) (tree_at t at_end) i o z
 walked_at-same bound t u insns ids at_end n i o s z h e q k =
     walked_at None (walked bound insns (invs-same t u ids h.invs e k) (e.same at_end h.post k) n) (e.same at_end h.post k) i o (q k)

@@ -27,7 +27,7 @@ AreInvs t [] = Unit {0}
 AreInvs t (p ∷ ps) = IsKnown t p.1 × (height_of (tree_at t p.1) < 2 ^ 31) × AreInvs t ps
 
 -- code, with ids for its invariants and for what holds at its end
-pub record IsProgram (t : TableView) (insns : List Insn) (ids : List (ℕ × ℕ)) (at_end : ℕ) : Type 0 where
+pub record IsKnownProgram (t : TableView) (insns : List Insn) (ids : List (ℕ × ℕ)) (at_end : ℕ) : Type 0 where
   pub code : IsCode insns
   pub invs : AreInvs t ids
   pub post : IsKnown t at_end

@@ -14,7 +14,7 @@ ghost use Rattle.vcgen.specs.Answers.{IsVcAnswer, AreLowInvs};
 ghost use Rattle.vcgen.specs.WalkTree.{start_terms, all_terms};
 ghost use Rattle.vcgen.specs.WalkTree.{machine_term, closed_term};
 ghost use Rattle.vcgen.specs.WalkTree.{part_terms, condition_term};
-ghost use Rattle.vcgen.specs.Symbols.{ids_of, IsProgram};
+ghost use Rattle.vcgen.specs.Symbols.{ids_of, IsKnownProgram};
 ghost use Rattle.vcgen.specs.Inside.Walks.{Walks};
 
 use crate::fault::VcFault;
@@ -129,7 +129,7 @@ fn condition_of(
     pre: Id,
 ) -> Result<Id, Exhausted>
     requires program { let p = program.now in
-        IsProgram table.old p.code.now p.invs.now p.post }
+        IsKnownProgram table.old p.code.now p.invs.now p.post }
     requires inside { All (λ p. p.0 < length program.now.code.now) program.now.invs.now }
     requires pre { IsKnown table.old pre }
     requires shifts { IsMemo table.old shifts.old }

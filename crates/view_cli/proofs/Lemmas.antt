@@ -11,13 +11,13 @@ use Rattle.asm_text.specs.Views.{source_insn_view, source_view}
 use Rattle.packet_store.specs.Packets.{AreShort}
 use Rattle.packet_store.specs.declared.reader.TheConstants.{MAX_PACKET}
 use Rattle.proof_container.specs.Contents.{Contents}
-use Rattle.proof_container.specs.Decoding.{Fault, decoded_container}
+use Rattle.proof_container.specs.Decoding.{Fault, decoded_container, contents_or}
 use Rattle.proof_container.specs.Versions.{IsVersion, IsBoundOf}
 use Rattle.proof_container.specs.declared.limits.TheConstants.{MAX_BYTES}
 use Rattle.term_table.specs.Steps.{◌>>=◌}
 use Rattle.view_container.specs.declared.stop.ListFault.{ListFault}
-use Rattle.view_container.specs.declared.stop.ListFault.TheVariants.{TooLong}
-use Rattle.view_container.specs.Listing.{listing_text, if_read, listing_of}
+use Rattle.view_container.specs.declared.stop.ListFault.TheVariants.{TooLong, Malformed}
+use Rattle.view_container.specs.Listing.{listing_text, listing_of}
 use Rattle.pcc_words.specs.Commands.{IsVersionOf}
 use Rattle.pcc_stages.specs.Stage.{gives}
 use Rattle.view_cli.specs.Commands.List.{lines_found}
@@ -84,9 +84,11 @@ pub listing-read : (bytes lines : List ℕ) (c : Contents) → length bytes ≤ 
 unfolding listing_of
 listing-read bytes lines c short is =
     ap
-    (λ (b : Bool). (if b then Err (TooLong (length bytes)) else if_read (decoded_container bytes))
+    (λ (b : Bool).
+    (if b then Err (TooLong (length bytes)) else contents_or (λ at what. Malformed at what) (decoded_container bytes))
     >>= λ x. Ok (listing_text x lines)) (le-ltb MAX_BYTES (length bytes) short)
-    ∙ ap (λ (r : Result Contents Fault). if_read r >>= λ x. Ok (listing_text x lines)) is
+    ∙ ap
+    (λ (r : Result Contents Fault). contents_or (λ at what. Malformed at what) r >>= λ x. Ok (listing_text x lines)) is
 
 -- ---- lines
 

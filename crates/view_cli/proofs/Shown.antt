@@ -51,19 +51,20 @@ use Rattle.view_container.specs.Laws.{AreLineNumbers, IsListedSource}
 use Rattle.view_container.specs.Listing.{listing_text}
 use Rattle.view_container.specs.Sources.{source_listing}
 use Rattle.view_goal_text.specs.Laws.{NamesFirst}
-use Rattle.view_goal_text.specs.Lines.{last_line}
-use Rattle.view_goal_text.specs.Texts.{lines_text}
+use Rattle.view_goal_text.specs.Lines.{verdict_line}
+use Rattle.view_goal_text.specs.Texts.{goal_lines_text}
 use Rattle.view_goal_text.specs.Listing.{goal_parts, parts_lines, goals_text, goals_of_code, goals_read, listed_unless, goals_of_bytes}
 use Rattle.view_trace.specs.Traces.{trace_from, packet_text}
-use Rattle.view_faults.specs.FormReports.{without_lf, form_line, form_fault_text, report_of_form, formula_report}
+use Rattle.view_faults.specs.FormReports.{without_lf, formula_line, form_fault_text, report_of_form, formula_report}
 use Rattle.view_faults.specs.Laws.{IsTokenFlaw}
 use Rattle.view_faults.specs.Marking.{Span, marked_line}
 use Rattle.view_faults.specs.SourceLines.{numbered_line}
-use Rattle.view_faults.specs.SourceReports.{source_line, source_fault_line, source_fault_text, fault_lines, report_of_code, report_of_source, source_report}
+use Rattle.view_faults.specs.SourceReports.{source_line, source_fault_text, fault_lines, report_of_code, report_of_source, source_report}
 use Rattle.view_faults.specs.Spans.{flaw_span, asm_flaw_span}
 use Rattle.pcc_words.specs.Invocations.{PolicyWord, named, from_file}
 use Rattle.pcc_lines.specs.Fixed.{container_too_long_line, packets_too_long_line, policy_too_long_line, source_too_long_line}
 use Rattle.pcc_lines.specs.Results.{result_line, result_lines}
+use Rattle.pcc_lines.specs.Sources.{source_fault_line}
 use Rattle.pcc_stages.specs.Exits.{Exit}
 use Rattle.pcc_stages.specs.Requests.{usage_exit, missing_exit, read_fault_exit, no_memory_exit}
 use Rattle.pcc_stages.specs.Stage.{Stage, stops, gives, reads, ◌>>=◌}
@@ -326,16 +327,16 @@ listing policy bytes text is = listing_unless policy bytes text (front_refusal p
 
 -- a text that ends with the line of a part
 ends_same : (front : List ℕ) (a b : Option ℕ) → a ≡ b
-    → (text : List ℕ) × (front ++ last_line a ≡ text ++ last_line b)
-ends_same front a b is = (front, ap (λ (k : Option ℕ). front ++ last_line k) is)
+    → (text : List ℕ) × (front ++ verdict_line a ≡ text ++ verdict_line b)
+ends_same front a b is = (front, ap (λ (k : Option ℕ). front ++ verdict_line k) is)
 
 -- the last line of a listing
 listing_end : NamesFirst → (policy : PolicyView) (c : Contents) (code : List Insn)
-    → (front : List ℕ) × (goals_text policy c code ≡ front ++ last_line (first_hard_part policy c code))
+    → (front : List ℕ) × (goals_text policy c code ≡ front ++ verdict_line (first_hard_part policy c code))
 unfolding goals_text
 listing_end first policy c code =
     let parts = goal_parts (annotated policy c.bound code (formulas c.invs)) in
-    ends_same (lines_text c.bound (parts_lines c.bound 0 parts)) _ _ (first policy c.bound code c.invs)
+    ends_same (goal_lines_text c.bound (parts_lines c.bound 0 parts)) _ _ (first policy c.bound code c.invs)
 
 -- `prove` names the part that isn't easy
 names_part : (policy : PolicyView) (bytes : List ℕ) (c : Contents) (code : List Insn) (k : ℕ)
@@ -556,13 +557,13 @@ module _ (laws : ViewLaws) (text : List ℕ) where
   bare = without_lf text
 
   form_right : length text ≤ MAX_FORMULA → (F : Form) → parsed_form Two true bare ≡ Ok F
-      → SaysOfForm text (done_exit (form_line F))
+      → SaysOfForm text (done_exit (formula_line F))
   form_right short F parsed =
       let spelled : Spells Two true bare F = (laws.forms Two true bare F).1 parsed in
       record {
         done = (λ z. (short, (F, spelled)), λ h. refl);
         right = λ G fits spells.
-            ap (λ (x : Form). done_exit (form_line x))
+            ap (λ (x : Form). done_exit (formula_line x))
             (same_ok (parsed_form Two true bare) F G parsed ((laws.forms Two true bare G).0 spells));
         wrong = λ at flaw fits fails.
             ok_or_err (parsed_form Two true bare) F (at, flaw) parsed fails;

@@ -20,10 +20,11 @@ use Rattle.proof_container.specs.Versions.{profile_of}
 use Rattle.pcc_gate.specs.declared.refusal.Refusal.{Refusal}
 use Rattle.view_goal_text.specs.Listing.{goals_of_bytes}
 use Rattle.view_faults.specs.FormReports.{without_lf, form_fault_line, form_fault_text, report_of_form, formula_report}
-use Rattle.view_faults.specs.SourceReports.{source_fault_line, report_of_code, report_of_source, source_report}
+use Rattle.view_faults.specs.SourceReports.{report_of_code, report_of_source, source_report}
 use Rattle.pcc_words.specs.Invocations.{named, from_file}
 use Rattle.pcc_lines.specs.Fixed.{container_too_long_line, packets_too_long_line, policy_too_long_line, source_too_long_line, unknown_policy_line}
 use Rattle.pcc_lines.specs.Refusals.{refusal_line}
+use Rattle.pcc_lines.specs.Sources.{source_fault_line}
 use Rattle.pcc_stages.specs.Exits.{Exit}
 use Rattle.pcc_stages.specs.Requests.{command, no_memory_exit}
 use Rattle.pcc_stages.specs.Stage.{Stage, stops, gives, reads, ◌>>=◌}

@@ -10,20 +10,20 @@ use Rattle.view_cli.specs.declared.arguments.Command.TheVariants as command
 use Rattle.view_cli.specs.declared.limits.TheConstants.{MAX_PACKET_NUMBER}
 
 -- `packet` with its values
-abbrev pub packet_of : PacketArgs → ViewInvocation
-packet_of args = packet (word_view args.policy) args.file.now args.packets.now args.number args.steps
+abbrev pub packet_from_args : PacketArgs → ViewInvocation
+packet_from_args args = packet (word_view args.policy) args.file.now args.packets.now args.number args.steps
 
 -- `source` with its values
-abbrev pub source_of : SourceArgs → ViewInvocation
-source_of args = source args.file.now args.version args.bound
+abbrev pub source_from_args : SourceArgs → ViewInvocation
+source_from_args args = source args.file.now args.version args.bound
 
 -- the command with its values
 abbrev pub view_invocation_of : Command → ViewInvocation
 view_invocation_of (command.List args) = list args.file.now (option_map (λ s. s.now) args.source)
 view_invocation_of (command.Goals args) = goals (word_view args.policy) args.file.now
-view_invocation_of (command.Packet args) = packet_of args
+view_invocation_of (command.Packet args) = packet_from_args args
 view_invocation_of (command.Formula file) = formula file.now
-view_invocation_of (command.Source args) = source_of args
+view_invocation_of (command.Source args) = source_from_args args
 view_invocation_of command.Help = help
 view_invocation_of command.Version = version
 

@@ -35,18 +35,19 @@ use Rattle.bounds_prover.specs.Proving.{proved_container}
 use Rattle.view_container.specs.Laws.{IsListedSource}
 use Rattle.view_container.specs.Listing.{listing_text}
 use Rattle.view_container.specs.Sources.{source_listing}
-use Rattle.view_goal_text.specs.Lines.{last_line}
+use Rattle.view_goal_text.specs.Lines.{verdict_line}
 use Rattle.view_goal_text.specs.Listing.{goals_text, goals_of_bytes}
 use Rattle.view_trace.specs.Traces.{packet_text}
-use Rattle.view_faults.specs.FormReports.{without_lf, form_line, form_fault_text}
+use Rattle.view_faults.specs.FormReports.{without_lf, formula_line, form_fault_text}
 use Rattle.view_faults.specs.Laws.{IsTokenFlaw}
 use Rattle.view_faults.specs.Marking.{Span, marked_line}
 use Rattle.view_faults.specs.SourceLines.{numbered_line}
-use Rattle.view_faults.specs.SourceReports.{source_line, source_fault_line, source_fault_text}
+use Rattle.view_faults.specs.SourceReports.{source_line, source_fault_text}
 use Rattle.view_faults.specs.Spans.{flaw_span, asm_flaw_span}
 use Rattle.pcc_words.specs.Invocations.{PolicyWord, named, from_file}
 use Rattle.pcc_lines.specs.Fixed.{source_too_long_line}
 use Rattle.pcc_lines.specs.Results.{result_line, result_lines}
+use Rattle.pcc_lines.specs.Sources.{source_fault_line}
 use Rattle.pcc_stages.specs.Exits.{Exit}
 use Rattle.pcc_stages.specs.Requests.{missing_exit, read_fault_exit, no_memory_exit}
 use Rattle.pcc_stages.specs.Runs.{NoneFailed, Prints, done_exit}
@@ -115,7 +116,8 @@ pub record ListsGoals (word : PolicyWord) (file : List ℕ) (events : List Event
   pub holds : decoded_container bytes ≡ Ok contents
   pub code_is : decoded_code (profile_of contents.version) contents.code ≡ Ok code
   pub shown : text ≡ goals_text policy contents code
-  pub last : (front : List ℕ) × (text ≡ front ++ last_line (first_hard_part policy contents code))
+  pub last : (front : List ℕ)
+      × (text ≡ front ++ verdict_line (first_hard_part policy contents code))
   pub proves : (k : ℕ) → first_hard_part policy contents code ≡ Some k
       → lemma_refusal policy bytes ≡ None → proved_container policy bytes ≡ Err (NotEasy k)
 
@@ -163,7 +165,7 @@ pub record SaysOfForm (text : List ℕ) (exit : Exit) : Type 0 where
   pub done : (exit.status ≡ 0)
       ↔ ((length text ≤ MAX_FORMULA) × ((F : Form) × Spells Two true (without_lf text) F))
   pub right : (F : Form) → length text ≤ MAX_FORMULA → Spells Two true (without_lf text) F
-      → exit ≡ done_exit (form_line F)
+      → exit ≡ done_exit (formula_line F)
   pub wrong : (at : ℕ) (flaw : TextFlaw) → length text ≤ MAX_FORMULA
       → parsed_form Two true (without_lf text) ≡ Err (at, flaw)
       → IsFaultPosition Two true (without_lf text) at

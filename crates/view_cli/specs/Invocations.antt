@@ -85,12 +85,12 @@ abbrev pub list_invocation : List Row → ViewInvocation
 list_invocation rows = list (value_of (codes "FILE") rows) (first_of (codes "SOURCE") rows)
 
 -- the policy of these rows
-abbrev pub policy_at : List Row → PolicyWord
-policy_at rows = policy_word (value_of (codes "POLICY") rows)
+abbrev pub policy_word_in : List Row → PolicyWord
+policy_word_in rows = policy_word (value_of (codes "POLICY") rows)
 
 -- `goals` of these rows
 abbrev pub goals_invocation : List Row → ViewInvocation
-goals_invocation rows = goals (policy_at rows) (value_of (codes "FILE") rows)
+goals_invocation rows = goals (policy_word_in rows) (value_of (codes "FILE") rows)
 
 -- a packet from 0 to 4,194,304, and steps from 1 to 1,000,000,000
 abbrev pub are_trace_numbers : ℕ → ℕ → Bool
@@ -102,7 +102,7 @@ packet_invocation rows =
     let number = number_at (codes "K") rows in
     let steps = number_at (codes "steps") rows in
     if are_trace_numbers number steps
-    then Some (packet (policy_at rows) (value_of (codes "FILE") rows) (value_of (codes "PACKETS") rows) number steps)
+    then Some (packet (policy_word_in rows) (value_of (codes "FILE") rows) (value_of (codes "PACKETS") rows) number steps)
     else None
 
 -- `source` of these rows. The parse takes no other bounds, so the test refuses none of them.

@@ -6,7 +6,7 @@ ghost use Rattle.pcc_words.specs.Commands.{word_view, IsVersionOf};
 ghost use Rattle.view_cli.specs.Invocations.{are_trace_numbers};
 ghost use Rattle.view_cli.specs.Invocations.{source_invocation, view_invocation_at};
 ghost use Rattle.view_cli.specs.Invocations.{view_invocation_of_subcommand};
-ghost use Rattle.view_cli.specs.Arguments.{source_of, view_invocation_of};
+ghost use Rattle.view_cli.specs.Arguments.{source_from_args, view_invocation_of};
 ghost use Rattle.view_cli.specs.Arguments.{IsInViewRange};
 
 use crate::arguments::{Command, GoalsArgs, ListArgs, PacketArgs, SourceArgs};
@@ -76,7 +76,7 @@ fn with_numbers_in_range<'a>(args: PacketArgs<'a>) -> Option<PacketArgs<'a>>
 /// Returns the arguments of `source` if the step bound is in its range; clap accepts no other, as
 /// with the numbers of `packet`.
 fn source_args_given<'a>(matches: &ArgMatches<'a>) -> Option<SourceArgs<'a>>
-    ensures exact { option_map source_of result
+    ensures exact { option_map source_from_args result
         ≡ source_invocation (rows_of (found_of matches.now)) }
     ensures in_range { IfSome result (λ args. IsVersionOf args.bound args.version) }
 {

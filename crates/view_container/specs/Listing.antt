@@ -1,10 +1,9 @@
 -- The listing of a container: a source that is assembled into it, or else, where it isn't one, what
 -- it holds in comments.
-use Rattle.std.specs.Prelude.{ℕ, nat_lt, if◌then◌else◌, List, length, Result, Ok, Err}
+use Rattle.std.specs.Prelude.{ℕ, List, Result, Ok, Err}
 use Rattle.term_table.specs.Steps.{◌>>=◌}
 use Rattle.proof_container.specs.Contents.{Contents}
-use Rattle.proof_container.specs.Decoding.{Fault, decoded_container}
-use Rattle.proof_container.specs.declared.limits.TheConstants.{MAX_BYTES}
+use Rattle.proof_container.specs.Decoding.{contents_within}
 use Rattle.view_container.specs.declared.stop.NoSource.{NoSource}
 use Rattle.view_container.specs.declared.stop.ListFault.{ListFault}
 use Rattle.view_container.specs.declared.stop.ListFault.TheVariants.{TooLong, Malformed}
@@ -20,16 +19,9 @@ source_or_comments c (Err why) = plain_text c why
 abbrev pub listing_text : Contents → List ℕ → List ℕ
 listing_text c lines = source_or_comments c (source_listing c lines)
 
--- contents that were read
-abbrev pub if_read : Result Contents Fault → Result Contents ListFault
-if_read (Ok c) = Ok c
-if_read (Err fault) = Err (Malformed fault.0 fault.1)
-
 -- what bytes hold, where they aren't too many for a container
 abbrev pub contents_read : List ℕ → Result Contents ListFault
-contents_read bytes =
-    if nat_lt MAX_BYTES (length bytes) then Err (TooLong (length bytes))
-    else if_read (decoded_container bytes)
+contents_read bytes = contents_within TooLong (λ at what. Malformed at what) bytes
 
 -- the container in the bytes in comments
 abbrev pub comments_in : List ℕ → NoSource → Result (List ℕ) ListFault

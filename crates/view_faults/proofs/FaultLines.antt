@@ -3,7 +3,8 @@ use Rattle.std.proofs.Common.{◌≡◌, ℕ, List, ◌++◌, Option, Some, None
 use Rattle.std.proofs.lemmas.List.{append-nil}
 use Rattle.view_faults.specs.Marking.{Span, marked_line}
 use Rattle.view_faults.specs.SourceLines.{numbered_line}
-use Rattle.view_faults.specs.SourceReports.{source_fault_line, fault_lines, source_fault_text}
+use Rattle.pcc_lines.specs.Sources.{source_fault_line}
+use Rattle.view_faults.specs.SourceReports.{fault_lines, source_fault_text}
 
 -- no line has the number
 pub no_line : (text : List ℕ) (n : ℕ) (kind : List ℕ) (span : List ℕ → Option Span) → None ≡ numbered_line text n →

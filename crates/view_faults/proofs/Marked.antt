@@ -29,7 +29,7 @@ use Rattle.asm_text.specs.SourceParsing.{parsed_source}
 use Rattle.asm_text.proofs.Refusing.{operands_fail}
 use Rattle.view_faults.specs.Marking.{Span}
 use Rattle.view_faults.specs.SourceLines.{numbered_line, statement_text, statement_tokens, lexemes_of}
-use Rattle.view_faults.specs.WrongOperands.{form_of, wanted_by, first_wrong, wrong_operand}
+use Rattle.view_faults.specs.WrongOperands.{mnemonic_form, wanted_by, first_wrong, wrong_operand}
 use Rattle.view_faults.specs.Spans.{first_token, fault_behind, wrong_formula, flaw_span}
 use Rattle.view_faults.specs.Laws.{IsTokenFlaw}
 use Rattle.view_faults.proofs.WrongFound.{operand_finds, placed_finds}
@@ -70,8 +70,8 @@ operands_found profile left flaw text w p ts (Some m) e h g =
     ⊎_elim
     (λ q. absurd (subst IsTokenFlaw (sym q.1) h))
     (λ q. let found : is_some (wrong_operand profile ((p, Lexeme w) ∷ ts)) ≡ true =
-    ap (λ x. is_some (first_wrong (wanted_by (form_of x) (length (lexemes_of ts))) (lexemes_of ts))) e
-    ∙ placed_finds (form_of (Some m)) ts (operand_finds m (map (λ t. t.1) ts) q.0 flaw q.1 q.2) in
+    ap (λ x. is_some (first_wrong (wanted_by (mnemonic_form x) (length (lexemes_of ts))) (lexemes_of ts))) e
+    ∙ placed_finds (mnemonic_form (Some m)) ts (operand_finds m (map (λ t. t.1) ts) q.0 flaw q.1 q.2) in
     ⊎_elim (λ r. subst (λ k. IsFound profile left k text ((p, Lexeme w) ∷ ts)) (sym r) found)
     (λ r. subst (λ k. IsFound profile left k text ((p, Lexeme w) ∷ ts)) (sym r) found) (kind q.0 flaw q.2))
     (operands_fail m (map (λ t. t.1) ts) flaw g)

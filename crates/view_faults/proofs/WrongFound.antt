@@ -25,7 +25,7 @@ use Rattle.view_faults.specs.declared.forms.OperandForm.{OperandForm}
 use Rattle.view_faults.specs.declared.forms.OperandForm.TheVariants as O
 use Rattle.view_faults.specs.Marking.{Span}
 use Rattle.view_faults.specs.SourceLines.{PlacedLexeme, lexemes_of}
-use Rattle.view_faults.specs.WrongOperands.{form_of, wanted_by, is_number, is_register, is_second, is_right, first_wrong}
+use Rattle.view_faults.specs.WrongOperands.{mnemonic_form, wanted_by, is_number_within, is_register, is_second, is_right, first_wrong}
 
 -- ---- what passes the tests is right
 
@@ -43,7 +43,7 @@ fixed_by k (Some r) h = ap Some (eqb-true r k h)
 right_fixed : (k : ℕ) (w : List ℕ) → is_right (W.Fixed k) w ≡ true → IsRightOperand (TheRegister k w)
 right_fixed k w h = register_is w k (fixed_by k (register_of w) h)
 
-displacement_by : (w : List ℕ) (o : Option Integer) → lexeme_integer w ≡ o → is_number 32768 32768 o ≡ true → IsRightOperand (ADisplacement w)
+displacement_by : (w : List ℕ) (o : Option Integer) → lexeme_integer w ≡ o → is_number_within 32768 32768 o ≡ true → IsRightOperand (ADisplacement w)
 displacement_by w None e h = absurd (false≢true h)
 displacement_by w (Some z) e h =
     let d = in_displacement_ok w (Some z) (integer_value z) e (cond-true (is_displacement z) (Ok (integer_value z)) (Err L.Range) h) in
@@ -56,7 +56,8 @@ counted : (limit n : ℕ) (t : Bool) → cond t (nat_le n 0) (nat_lt n limit) �
 counted limit n true h = (0, cond-true (nat_le n 0) (Ok 0) (Err L.Range) h)
 counted limit n false h = (n, cond-true (nat_lt n limit) (Ok n) (Err L.Range) h)
 
-count_by : (limit : ℕ) (w : List ℕ) (o : Option Integer) → 0 < limit → lexeme_integer w ≡ o → is_number 0 limit o ≡ true → IsRightOperand (ACount limit w)
+count_by : (limit : ℕ) (w : List ℕ) (o : Option Integer) → 0 < limit → lexeme_integer w ≡ o
+    → is_number_within 0 limit o ≡ true → IsRightOperand (ACount limit w)
 count_by limit w None l e h = absurd (false≢true h)
 count_by limit w (Some (t, n)) l e h =
     let m = counted limit n t h in
@@ -179,7 +180,7 @@ return_finds ts os flaw h f =
 
 -- where the operands of a mnemonic have their form, and one is wrong, one is found
 pub operand_finds : (m : Mnemonic) (ts : List (Token Punct)) (os : List Operand) (flaw : LineFlaw) → HasOperandForm m os ts → FirstWrong os flaw →
-    Finds (form_of (Some m)) ts
+    Finds (mnemonic_form (Some m)) ts
 operand_finds (N.Memory o) ts os flaw h f = memory_finds ts os flaw h f
 operand_finds (N.Oper o) ts os flaw h f = operate_finds ts os flaw h f
 operand_finds (N.Branch j) ts os flaw h f = branch_finds ts os flaw h f

@@ -44,8 +44,8 @@ form_fault_line position kind =
     codes "form " ++ (decimal position ++ (codes " " ++ (kind ++ codes "\n")))
 
 -- the formula as it is printed
-unfoldable pub form_line : Form → List ℕ
-form_line F = codes "formula " ++ (form_text 0 F ++ codes "\n")
+unfoldable pub formula_line : Form → List ℕ
+formula_line F = codes "formula " ++ (form_text 0 F ++ codes "\n")
 
 -- a fault, and the line in which it lies, with a mark under its place
 abbrev pub form_fault_text : List ℕ → FaultAt → List ℕ
@@ -55,7 +55,7 @@ form_fault_text text fault =
 
 -- what is said of a text, by what it is parsed as
 abbrev pub report_of_form : List ℕ → Result Form FaultAt → Bool × List ℕ
-report_of_form text (Ok F) = (true, form_line F)
+report_of_form text (Ok F) = (true, formula_line F)
 report_of_form text (Err fault) = (false, form_fault_text text fault)
 
 -- Whether the text spells a formula, and what is said of it. An LF at the text's end doesn't count.

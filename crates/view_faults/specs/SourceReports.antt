@@ -10,6 +10,7 @@ use Rattle.asm_text.specs.SourceParsing.{parsed_source}
 use Rattle.pcc_asm.specs.declared.fault.AsmFlaw.{AsmFlaw}
 use Rattle.pcc_asm.specs.Names.{asm_flaw_line, asm_flaw_name}
 use Rattle.pcc_asm.specs.Assembling.{assembled_code}
+use Rattle.pcc_lines.specs.Sources.{source_fault_line}
 use Rattle.view_faults.specs.Marking.{Span, marked_line}
 use Rattle.view_faults.specs.SourceLines.{numbered_line}
 use Rattle.view_faults.specs.Spans.{flaw_span, asm_flaw_span}
@@ -20,11 +21,6 @@ source_line s =
     codes "source: " ++ (decimal (length s.insns) ++ (codes " instructions, "
     ++ (decimal (length s.labels) ++ (codes " labels, "
     ++ (decimal (length s.invs) ++ codes " invariants\n")))))
-
--- the number of the line that is wrong, and the name of what is wrong with it, as `pcc asm` prints
--- them
-unfoldable pub source_fault_line : ℕ → List ℕ → List ℕ
-source_fault_line number kind = codes "line " ++ (decimal number ++ (codes " " ++ (kind ++ codes "\n")))
 
 -- a line, if there is one, with the mark of a fault under it
 abbrev pub fault_lines : (List ℕ → Option Span) → Option (List ℕ) → List ℕ

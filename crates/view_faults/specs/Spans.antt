@@ -57,8 +57,8 @@ wrong_formula profile left text (t ∷ ts) =
     (parsed_form profile left (drop (t.0 + token_length t.1) text))
 
 -- a span of the line's statement as one of the line
-abbrev pub in_line : List ℕ → Option Span → Option Span
-in_line line span = option_map (λ s. (statement_place line + s.0, s.1)) span
+abbrev pub span_in_line : List ℕ → Option Span → Option Span
+span_in_line line span = option_map (λ s. (statement_place line + s.0, s.1)) span
 
 -- ---- faults
 
@@ -66,16 +66,18 @@ in_line line span = option_map (λ s. (statement_place line + s.0, s.1)) span
 -- steps that are left
 abbrev pub flaw_span : Profile → Bool → LineFlaw → List ℕ → Option Span
 flaw_span profile left L.Character line = Some (printable_before line, 0)
-flaw_span profile left L.Mnemonic line = in_line line (first_token (statement_tokens line))
-flaw_span profile left L.Register line = in_line line (wrong_operand profile (statement_tokens line))
-flaw_span profile left L.Range line = in_line line (wrong_operand profile (statement_tokens line))
+flaw_span profile left L.Mnemonic line = span_in_line line (first_token (statement_tokens line))
+flaw_span profile left L.Register line =
+    span_in_line line (wrong_operand profile (statement_tokens line))
+flaw_span profile left L.Range line =
+    span_in_line line (wrong_operand profile (statement_tokens line))
 flaw_span profile left L.Formula line =
-    in_line line (wrong_formula profile left (statement_text line) (statement_tokens line))
+    span_in_line line (wrong_formula profile left (statement_text line) (statement_tokens line))
 flaw_span profile left flaw line = Some (blanks_before line, 0)
 
 -- the mark of what is wrong with a line that is assembled: the label of a branch that leads nowhere
 -- or outside
 abbrev pub asm_flaw_span : AsmFlaw → List ℕ → Option Span
-asm_flaw_span (A.NoLabel n) line = in_line line (last_token (statement_tokens line))
-asm_flaw_span (A.Target n) line = in_line line (last_token (statement_tokens line))
+asm_flaw_span (A.NoLabel n) line = span_in_line line (last_token (statement_tokens line))
+asm_flaw_span (A.Target n) line = span_in_line line (last_token (statement_tokens line))
 asm_flaw_span flaw line = Some (blanks_before line, 0)

@@ -19,14 +19,14 @@ use Rattle.view_faults.specs.SourceLines.{PlacedLexeme, lexemes_of}
 -- ---- what has to stand in an operand's place
 
 -- the form of the operands behind a mnemonic
-abbrev pub form_of : Option Mnemonic → OperandForm
-form_of (Some (N.Memory o)) = O.Memory
-form_of (Some (N.Oper o)) = O.Operate
-form_of (Some (N.Branch j)) = O.Branch
-form_of (Some N.Br) = O.Br
-form_of (Some N.Ret) = O.Return
-form_of (Some N.Nop) = O.Nothing
-form_of None = O.Nothing
+abbrev pub mnemonic_form : Option Mnemonic → OperandForm
+mnemonic_form (Some (N.Memory o)) = O.Memory
+mnemonic_form (Some (N.Oper o)) = O.Operate
+mnemonic_form (Some (N.Branch j)) = O.Branch
+mnemonic_form (Some N.Br) = O.Br
+mnemonic_form (Some N.Ret) = O.Return
+mnemonic_form (Some N.Nop) = O.Nothing
+mnemonic_form None = O.Nothing
 
 -- what has to stand at the lexemes of such operands, of which there are so many; a label isn't
 -- among them
@@ -47,9 +47,9 @@ abbrev pub is_within : ℕ → ℕ → Integer → Bool
 is_within low limit z = if z.0 then nat_le z.1 low else nat_lt z.1 limit
 
 -- the same of a lexeme that may be no integer
-abbrev pub is_number : ℕ → ℕ → Option Integer → Bool
-is_number low limit None = false
-is_number low limit (Some z) = is_within low limit z
+abbrev pub is_number_within : ℕ → ℕ → Option Integer → Bool
+is_number_within low limit None = false
+is_number_within low limit (Some z) = is_within low limit z
 
 -- whether it is this register
 abbrev pub is_register : ℕ → Option ℕ → Bool
@@ -65,7 +65,7 @@ is_second w (Some z) = is_within 0 256 z
 abbrev pub is_right : Wanted → List ℕ → Bool
 is_right W.Register w = is_some (register_of w)
 is_right (W.Fixed k) w = is_register k (register_of w)
-is_right (W.Number low limit) w = is_number low limit (lexeme_integer w)
+is_right (W.Number low limit) w = is_number_within low limit (lexeme_integer w)
 is_right W.Right w = is_second w (lexeme_integer w)
 
 -- the first of the lexemes that isn't
@@ -80,4 +80,5 @@ abbrev pub wrong_operand : Profile → List (Placed Punct) → Option Span
 wrong_operand profile [] = None
 wrong_operand profile ((p, Mark m) ∷ ts) = None
 wrong_operand profile ((p, Lexeme w) ∷ ts) =
-    first_wrong (wanted_by (form_of (mnemonic_of profile w)) (length (lexemes_of ts))) (lexemes_of ts)
+    first_wrong (wanted_by (mnemonic_form (mnemonic_of profile w)) (length (lexemes_of ts)))
+    (lexemes_of ts)

@@ -2,7 +2,7 @@
 
 ghost use Rattle.std.specs.Prelude.{◌≡◌};
 ghost use Rattle.asm_text.specs.Mnemonics.{mnemonic_of};
-ghost use Rattle.view_faults.specs.WrongOperands.{form_of};
+ghost use Rattle.view_faults.specs.WrongOperands.{mnemonic_form};
 
 use asm_text::{Mnemonic, mnemonic_named};
 use word_ops::Profile;
@@ -26,7 +26,7 @@ pub enum OperandForm {
 
 /// Returns the form of the operands of the profile's mnemonic that `lexeme` is.
 pub fn operand_form(profile: Profile, lexeme: &[u8]) -> OperandForm
-    ensures { result ≡ form_of (mnemonic_of profile lexeme.now) }
+    ensures { result ≡ mnemonic_form (mnemonic_of profile lexeme.now) }
 {
     let Some(mnemonic) = mnemonic_named(lexeme, profile) else {
         return OperandForm::Nothing;

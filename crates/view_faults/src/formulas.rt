@@ -4,7 +4,7 @@ ghost use Rattle.std.specs.Prelude.{◌≡◌, ◌+◌, ◌-◌, ◌≤◌, ◌+
 ghost use Rattle.std.specs.Prelude.{OnOk, IfOk, Some};
 ghost use Rattle.formula_tree.specs.Views.{form_view};
 ghost use Rattle.view_faults.specs.FormReports.{before_lf, column_of, line_around, without_lf};
-ghost use Rattle.view_faults.specs.FormReports.{form_fault_line, form_line, form_fault_text};
+ghost use Rattle.view_faults.specs.FormReports.{form_fault_line, formula_line, form_fault_text};
 ghost use Rattle.view_faults.specs.FormReports.{formula_report};
 ghost use Rattle.view_faults.specs.Marking.{marked_line};
 
@@ -105,9 +105,9 @@ fn fault_lines(alloc: Global, text: &[u8], at: usize, flaw: TextFlaw) -> Result<
 }
 
 /// The formula as it is printed.
-#[tactic(auto, unfolding(crate::specs::FormReports::form_line))]
+#[tactic(auto, unfolding(crate::specs::FormReports::formula_line))]
 fn form_line(alloc: Global, form: &Form) -> Result<Vec<u8>, AllocError>
-    ensures { IfOk result (λ v. v.items ≡ form_line (form_view form.now)) }
+    ensures { IfOk result (λ v. v.items ≡ formula_line (form_view form.now)) }
 {
     let text = print_form(alloc, form)?;
     let mut out = Vec::new(alloc);

@@ -10,13 +10,13 @@ ghost use Rattle.asm_text.specs.Views.{ParsesSource, source_view};
 ghost use Rattle.pcc_asm.specs.Assembling.{assembled_code};
 ghost use Rattle.pcc_asm.specs.Names.{asm_flaw_line, asm_flaw_name};
 ghost use Rattle.pcc_asm.specs.Views.{IsSpelled};
+ghost use Rattle.pcc_lines.specs.Sources.{source_fault_line};
 ghost use Rattle.view_faults.specs.Inside.Views.{span_view, IsCodeAnswer};
 ghost use Rattle.view_faults.specs.Marking.{marked_line};
 ghost use Rattle.view_faults.specs.SourceLines.{numbered_line};
 ghost use Rattle.view_faults.specs.Spans.{flaw_span, asm_flaw_span};
-ghost use Rattle.view_faults.specs.SourceReports.{source_line, source_fault_line};
-ghost use Rattle.view_faults.specs.SourceReports.{source_fault_text, report_of_code};
-ghost use Rattle.view_faults.specs.SourceReports.{source_report};
+ghost use Rattle.view_faults.specs.SourceReports.{source_line, source_fault_text};
+ghost use Rattle.view_faults.specs.SourceReports.{report_of_code, source_report};
 
 use crate::marking::{Span, push_marked_line, push_number};
 use crate::report::SourceReport;
@@ -73,7 +73,7 @@ fn source_line(alloc: Global, source: &Source) -> Result<Vec<u8>, AllocError>
 }
 
 /// Adds the number of the line that is wrong, and the name of what is wrong with it.
-#[tactic(auto, unfolding(crate::specs::SourceReports::source_fault_line))]
+#[tactic(auto, unfolding(pcc_lines::specs::Sources::source_fault_line))]
 fn push_fault(out: &mut Vec<u8>, number: u32, kind: &str) -> Result<(), AllocError>
     ensures { OnOk result (out.new.items ≡ out.old.items ++ source_fault_line number kind.now) }
 {

@@ -7,7 +7,7 @@ ghost use Rattle.formula_text.specs.Parsing.{parsed_form};
 ghost use Rattle.asm_text.specs.Marks.{source_class};
 ghost use Rattle.view_faults.specs.Inside.Views.{span_view};
 ghost use Rattle.view_faults.specs.Spans.{blanks_before, printable_before, first_token, last_token};
-ghost use Rattle.view_faults.specs.Spans.{fault_behind, wrong_formula, in_line};
+ghost use Rattle.view_faults.specs.Spans.{fault_behind, wrong_formula, span_in_line};
 ghost use Rattle.view_faults.specs.Spans.{flaw_span, asm_flaw_span};
 ghost use Rattle.view_faults.specs.SourceLines.{statement_text, statement_tokens};
 ghost use Rattle.view_faults.specs.WrongOperands.{wrong_operand};
@@ -144,7 +144,7 @@ fn in_line(place: usize, span: Option<Span>) -> Option<Span>
 /// The mark of a statement that begins with no mnemonic.
 fn mnemonic_span(line: &[u8]) -> Option<Span>
     ensures { option_map span_view result
-        ≡ in_line line.now (first_token (statement_tokens line.now)) }
+        ≡ span_in_line line.now (first_token (statement_tokens line.now)) }
 {
     let (place, text) = statement_of(line);
     in_line(place, first_token(text))
@@ -153,7 +153,7 @@ fn mnemonic_span(line: &[u8]) -> Option<Span>
 /// The mark of a statement with a wrong operand.
 fn operand_span(profile: Profile, line: &[u8]) -> Option<Span>
     ensures { option_map span_view result
-        ≡ in_line line.now (wrong_operand profile (statement_tokens line.now)) }
+        ≡ span_in_line line.now (wrong_operand profile (statement_tokens line.now)) }
 {
     let (place, text) = statement_of(line);
     in_line(place, wrong_operand(profile, text))
@@ -166,7 +166,7 @@ fn formula_span(
     left: bool,
     line: &[u8],
 ) -> Result<Option<Span>, AllocError>
-    ensures { IfOk result (λ s. option_map span_view s ≡ in_line line.now
+    ensures { IfOk result (λ s. option_map span_view s ≡ span_in_line line.now
         (wrong_formula profile left (statement_text line.now) (statement_tokens line.now))) }
 {
     let (place, text) = statement_of(line);
@@ -179,7 +179,7 @@ fn formula_span(
 /// The mark of a branch whose label is wrong.
 fn label_span(line: &[u8]) -> Option<Span>
     ensures { option_map span_view result
-        ≡ in_line line.now (last_token (statement_tokens line.now)) }
+        ≡ span_in_line line.now (last_token (statement_tokens line.now)) }
 {
     let (place, text) = statement_of(line);
     in_line(place, last_token(text))

@@ -5,7 +5,7 @@ use Rattle.std.specs.Option.{option_map}
 use Rattle.std.proofs.lemmas.List.{append-nil, map-append}
 use Rattle.term_table.specs.Table.{TableView, IsKnown, tree_at, Extends}
 use Rattle.view_goal_text.specs.declared.lines.ShownLine.{ShownLine}
-use Rattle.view_goal_text.specs.Lines.{Line}
+use Rattle.view_goal_text.specs.Lines.{GoalLine}
 use Rattle.view_goal_text.specs.Inside.Shown.{shown_line, line_view, HasKnownLong, AreKnownLines, AreAdded}
 use Rattle.view_goal_text.proofs.Growing.{id-known}
 
@@ -46,7 +46,7 @@ pushed-known t (x ∷ ls) l h k = (h.0, pushed-known t ls l h.1 k)
 
 module _ (bound : Option ℕ) where
   pub added-one : (t u : TableView) → Extends t u → (old : List ShownLine) → AreKnownLines t old
-      → (x : ShownLine) (line : Line) (new : List ShownLine) → line_view u x ≡ shown_line bound line
+      → (x : ShownLine) (line : GoalLine) (new : List ShownLine) → line_view u x ≡ shown_line bound line
       → new ≡ old ++ x ∷ [] → AreAdded bound t u old (line ∷ []) new
   added-one t u grown old known x line new same is =
       let before = lines-more t u grown old known in
@@ -58,8 +58,8 @@ module _ (bound : Option ℕ) where
   added-none t u grown old known =
       lines-more t u grown old known ∙ sym (append-nil (map (line_view t) old))
 
-  pub added-more : (t u v : TableView) (old : List ShownLine) (first : List Line) (mid : List ShownLine)
-      (later : List Line) (new : List ShownLine) → AreAdded bound t u old first mid
+  pub added-more : (t u v : TableView) (old : List ShownLine) (first : List GoalLine) (mid : List ShownLine)
+      (later : List GoalLine) (new : List ShownLine) → AreAdded bound t u old first mid
       → AreAdded bound u v mid later new → AreAdded bound t v old (first ++ later) new
   added-more t u v old first mid later new e f =
       f ∙ ap (λ l. l ++ map (shown_line bound) later) e

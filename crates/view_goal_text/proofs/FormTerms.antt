@@ -12,7 +12,7 @@ use Rattle.lf_encode.specs.Naming.{named_exp, named_mem, named_form}
 use Rattle.lf_encode.specs.Reading.{binary, exp_of, mem_of, form_of}
 use Rattle.lf_encode.proofs.Naming.{named_form-is}
 use Rattle.vcgen.specs.Encoded.{context_of}
-use Rattle.view_goals.specs.Goals.{Goals, Goal, Both, Under, Part}
+use Rattle.view_goals.specs.Goals.{Goals, Goal, Both, Under, PartGoals}
 use Rattle.view_goals.specs.Rows.{goal_rows}
 use Rattle.view_goal_text.specs.Listing.{view_of}
 use Rattle.view_goal_text.specs.Inside.FormTerms.{IsFormTerm, AreFormTerms, IsFormRow, AreFormRows}
@@ -91,8 +91,8 @@ rows-encoded ctx d (Both S T) = (
 )
 rows-encoded ctx d (Under i taken A T) = (term-encoded ctx A, rows-encoded ctx (d + 1) T)
 
-pub form-known : (bound : Option ℕ) (p : Part) → IsFormTerm (view_of bound p).known
+pub form-known : (bound : Option ℕ) (p : PartGoals) → IsFormTerm (view_of bound p).known
 form-known bound p = term-encoded (context_of bound) p.known
 
-pub form-rows : (bound : Option ℕ) (p : Part) → AreFormRows (view_of bound p).rows
+pub form-rows : (bound : Option ℕ) (p : PartGoals) → AreFormRows (view_of bound p).rows
 form-rows bound p = rows-encoded (context_of bound) 0 p.goals

@@ -12,7 +12,7 @@ use Rattle.view_marks.specs.Hints.{HintView, Plain, Bounds, Rights}
 use Rattle.view_marks.specs.declared.hints.Hint.{Hint}
 use Rattle.view_marks.specs.declared.hints.Hint.TheVariants as H
 use Rattle.view_marks.specs.Answers.{IsHint, IsKnownHint}
-use Rattle.view_goal_text.specs.Lines.{words, before}
+use Rattle.view_goal_text.specs.Lines.{plain_line, before}
 use Rattle.view_goal_text.specs.Hints.{missing_lines, bounds_label, like_lines, said_lines}
 use Rattle.view_goal_text.proofs.Growing.{id-known}
 use Rattle.view_goal_text.proofs.ShownTexts.{taken-more}
@@ -73,7 +73,7 @@ like-more label t ids i id lt is =
     ∙ map-append (before label) (map (tree_at t) (take i ids)) (tree_at t id ∷ [])
 
 pub like-none : (t : TableView) (ids : List ℕ) → length ids ≡ 0 → like_lines (map (tree_at t) ids)
-    ≡ words (codes "  nothing known has this address's summands") ∷ []
+    ≡ plain_line (codes "  nothing known has this address's summands") ∷ []
 like-none t [] e = refl
 like-none t (id ∷ ids) e = absurd (omega (arith, e))
 
@@ -91,10 +91,10 @@ module _ (t : TableView) where
   plain-said (Rights Fs) h = absurd h
 
   pub bounds-said : (view : HintView) (hint : Hint) (u l : ℕ) → hint ≡ H.Bounds u l → IsHint t view hint
-      → said_lines view ≡ words (bounds_label u l) ∷ []
+      → said_lines view ≡ plain_line (bounds_label u l) ∷ []
   bounds-said view hint u l is h = said_at view (subst (IsHint t view) is h)
     where
-      said_at : (v : HintView) → IsHint t v (H.Bounds u l) → said_lines v ≡ words (bounds_label u l) ∷ []
+      said_at : (v : HintView) → IsHint t v (H.Bounds u l) → said_lines v ≡ plain_line (bounds_label u l) ∷ []
       said_at Plain k = absurd k
-      said_at (Bounds a b) k = λ i. words (bounds_label (sym k.0 i) (sym k.1 i)) ∷ []
+      said_at (Bounds a b) k = λ i. plain_line (bounds_label (sym k.0 i) (sym k.1 i)) ∷ []
       said_at (Rights Fs) k = absurd k

@@ -7,7 +7,7 @@ use Rattle.term_table.specs.Table.{TableView, tree_at, node_tree}
 use Rattle.term_table.specs.declared.Node.{Node}
 use Rattle.term_table.specs.declared.Node.TheVariants as N
 use Rattle.view_entries.specs.Sizes.{node_count}
-use Rattle.view_goal_text.specs.Inside.Nodes.{rest_after, rest_of, rest_behind, rest_of_node}
+use Rattle.view_goal_text.specs.Inside.Nodes.{rest_after, rest_after_tree, rest_behind, rest_of_node}
 
 pub node_count-some : (t : Tree) → 1 ≤ node_count t
 node_count-some (Var n) = omega arith
@@ -57,13 +57,13 @@ after-both b m n =
     ]
 
 behind-is : (o : Option ℕ) (t : Tree) → rest_behind o t ≡ after-that o (node_count t)
-unfolding rest_of
+unfolding rest_after_tree
 behind-is None t = refl
 behind-is (Some rest) t = refl
 
 two-parts : (b : ℕ) (s t : Tree) → 1 ≤ b
-    → rest_behind (rest_of (b - 1) s) t ≡ rest_after b (1 + (node_count s + node_count t))
-unfolding rest_of
+    → rest_behind (rest_after_tree (b - 1) s) t ≡ rest_after b (1 + (node_count s + node_count t))
+unfolding rest_after_tree
 two-parts b s t h =
     behind-is (rest_after (b - 1) (node_count s)) t
     ∙ after-both (b - 1) (node_count s) (node_count t)
@@ -71,16 +71,16 @@ two-parts b s t h =
 
 -- a node's trees, and what is left behind the whole
 pub node-rest : (t : TableView) (b : ℕ) (n : Node) → 1 ≤ b
-    → rest_of_node t b n ≡ rest_of b (node_tree t n)
-unfolding rest_of
+    → rest_of_node t b n ≡ rest_after_tree b (node_tree t n)
+unfolding rest_after_tree
 node-rest t b (N.App f a) h = two-parts b (tree_at t f) (tree_at t a) h
 node-rest t b (N.Lam x) h = after-more b (node_count (tree_at t x)) h
 node-rest t b (N.TApp f a) h = two-parts b (tree_at t f) (tree_at t a) h
 node-rest t b (N.Pi f a) h = two-parts b (tree_at t f) (tree_at t a) h
 node-rest t b n h = after-one b h
 
-pub none_left : (b : ℕ) (t : Tree) → b ≡ 0 → None ≡ rest_of b t
-unfolding rest_of
+pub none_left : (b : ℕ) (t : Tree) → b ≡ 0 → None ≡ rest_after_tree b t
+unfolding rest_after_tree
 none_left b t h = sym (after-none b (node_count t) (omega (arith, h, node_count-some t)))
 
 -- whether something is left, or nothing more is needed
@@ -91,6 +91,6 @@ after-is b n =
       | inr most ↦ ap is_some (after-some b n most) ∙ sym (le-leb n b most)
     ]
 
-pub small-is : (b : ℕ) (t : Tree) → is_some (rest_of b t) ≡ nat_le (node_count t) b
-unfolding rest_of
+pub small-is : (b : ℕ) (t : Tree) → is_some (rest_after_tree b t) ≡ nat_le (node_count t) b
+unfolding rest_after_tree
 small-is b t = after-is b (node_count t)

@@ -12,8 +12,8 @@ use Rattle.vcgen.specs.Encoded.{annotated}
 use Rattle.pcc_gate.specs.First.{formulas}
 use Rattle.prover_conditions.specs.Conditions.{condition_parts}
 use Rattle.view_goals.specs.declared.rows.PartRows.{PartRows}
-use Rattle.view_goals.specs.Goals.{Part, entry_goals, inv_goals}
-use Rattle.view_goals.specs.Rows.{PartView, part_view, shown_part, shown_parts, IsCodeOf}
+use Rattle.view_goals.specs.Goals.{PartGoals, entry_goals, inv_goals}
+use Rattle.view_goals.specs.Rows.{PartRowsView, part_view, shown_part, shown_parts, IsCodeOf}
 use Rattle.view_goals.specs.Laws.{IsEntryPart, AreInvParts}
 use Rattle.view_marks.specs.Marks.{part_form, part_marks, first_unmarked}
 use Rattle.view_goal_text.specs.declared.lines.ShownLine.{ShownLine}
@@ -25,15 +25,15 @@ use Rattle.view_goal_text.proofs.Adding.{added-more}
 
 -- ---- lists of parts
 
-abbrev first_view : PartView → List PartView → PartView
+abbrev first_view : PartRowsView → List PartRowsView → PartRowsView
 first_view d [] = d
 first_view d (p ∷ ps) = p
 
-abbrev later_views : List PartView → List PartView
+abbrev later_views : List PartRowsView → List PartRowsView
 later_views [] = []
 later_views (p ∷ ps) = ps
 
-abbrev is_none : List PartView → Bool
+abbrev is_none : List PartRowsView → Bool
 is_none [] = Bool.true
 is_none (p ∷ ps) = Bool.false
 
@@ -108,7 +108,7 @@ parts-formed entry law c =
 -- the first part that isn't easy is the first with a goal that isn't marked
 abbrev pub IsFirstMarked : Type 0
 IsFirstMarked =
-    (bound : Option ℕ) (n : ℕ) (parts : List Part)
+    (bound : Option ℕ) (n : ℕ) (parts : List PartGoals)
     → first_not_easy (is_some bound) n (map (part_form bound) parts)
     ≡ first_unmarked n (map (part_marks (is_some bound)) parts)
 

@@ -7,14 +7,14 @@ use Rattle.term_table.specs.Table.{TableView, IsKnown, AllKnown, tree_at}
 use Rattle.view_goals.specs.declared.rows.Row.{Row}
 use Rattle.view_goals.specs.Rows.{RowView, GoalRow, BothRow, UnderRow, row_view}
 use Rattle.view_goal_text.specs.declared.lines.ShownLine.{ShownLine}
-use Rattle.view_goal_text.specs.Lines.{Line}
+use Rattle.view_goal_text.specs.Lines.{GoalLine}
 use Rattle.view_goal_text.specs.Listing.{row_line, goal_count, is_hard, row_hint, known_after, row_lines}
 use Rattle.view_goal_text.specs.Inside.Shown.{ShownView, shown_line, line_view, AreAdded}
 use Rattle.view_goal_text.specs.Inside.FormTerms.{IsFormTerm, AreFormTerms, IsFormRow, AreFormRows}
 use Rattle.view_goal_text.proofs.FormTerms.{all-append, all-taken}
 
 -- the lines of a row and its hint
-abbrev pub lines_here : Bool → Bool → List Tree → RowView → Bool → List Line
+abbrev pub lines_here : Bool → Bool → List Tree → RowView → Bool → List GoalLine
 lines_here counted due known r easy = row_line r easy ++ row_hint (due && is_hard r easy) counted known r
 
 -- what is kept so far, before what is still to come, is the whole
@@ -34,7 +34,7 @@ row-step bound t u v due known rows marks i j x old new whole split is before =
     let r = row_view t x in
     let rest = map (row_view t) (drop (i + 1) rows) in
     let easy = get_or marks j false in
-    let later : Bool → List Bool → List Line = λ b ms. row_lines counted (due && not (is_hard r b)) (known_after known r) rest ms in
+    let later : Bool → List Bool → List GoalLine = λ b ms. row_lines counted (due && not (is_hard r b)) (known_after known r) rest ms in
     let behind_it = drop (j + goal_count r) marks in
     let here = lines_here counted due known r easy in
     let same : j + 0 ≡ j = omega arith in

@@ -14,9 +14,9 @@ use Rattle.proof_container.specs.Inside.Walked.{left_trees}
 use Rattle.proof_container.proofs.Small.{AreEmitted-split}
 use Rattle.proof_container.proofs.Walks.{entries_grow, entries_listed}
 use Rattle.view_goal_text.specs.declared.lines.ShownLine.{ShownLine}
-use Rattle.view_goal_text.specs.Formulas.{short_text, unless_short, text_or_name, long_term}
-use Rattle.view_goal_text.specs.Lines.{Line}
-use Rattle.view_goal_text.specs.Texts.{ended, term_text, line_text, long_terms, entries_text, lines_text}
+use Rattle.view_goal_text.specs.Formulas.{short_text, if_long, text_or_name, long_term}
+use Rattle.view_goal_text.specs.Lines.{GoalLine}
+use Rattle.view_goal_text.specs.Texts.{with_lf, term_text, goal_line_text, long_terms, entries_text, goal_lines_text}
 use Rattle.view_goal_text.specs.Inside.Shown.{short_part, shown_line, line_view, name_part, shown_text, shown_longs, shown_lines_text}
 
 -- ---- lists
@@ -94,29 +94,29 @@ walked t ids longs w same is =
 -- ---- as they are listed
 
 one-text : (es : List Tree) (label : List ℕ) (t : Tree) (o : Option (List ℕ))
-    → label ++ ended (text_or_name es t o)
-    ≡ (label ++ unwrap_or o []) ++ ended (name_part es (unless_short o t))
-one-text es label t None = ap (λ l. l ++ ended (text_or_name es t None)) (sym (append-nil label))
+    → label ++ with_lf (text_or_name es t o)
+    ≡ (label ++ unwrap_or o []) ++ with_lf (name_part es (if_long o t))
+one-text es label t None = ap (λ l. l ++ with_lf (text_or_name es t None)) (sym (append-nil label))
 one-text es label t (Some text) = sym (append_assoc label text (10 ∷ []))
 
 line-same : (bound : Option ℕ) (es : List Tree) (label : List ℕ) (o : Option Tree)
-    → label ++ ended (term_text bound es o)
-    ≡ (label ++ short_part bound o) ++ ended (name_part es (long_term bound o))
+    → label ++ with_lf (term_text bound es o)
+    ≡ (label ++ short_part bound o) ++ with_lf (name_part es (long_term bound o))
 line-same bound es label None = ap (λ l. l ++ 10 ∷ []) (sym (append-nil label))
 line-same bound es label (Some t) = one-text es label t (short_text bound t)
 
-lines-same : (bound : Option ℕ) (es : List Tree) (ls : List Line)
-    → flat_map (line_text bound es) ls ≡ flat_map (shown_text es) (map (shown_line bound) ls)
+lines-same : (bound : Option ℕ) (es : List Tree) (ls : List GoalLine)
+    → flat_map (goal_line_text bound es) ls ≡ flat_map (shown_text es) (map (shown_line bound) ls)
 lines-same bound es [] = refl
 lines-same bound es (l ∷ ls) =
     let first = line-same bound es l.label l.term in
     let others = lines-same bound es ls in λ k. first k ++ others k
 
-longs-same : (bound : Option ℕ) (ls : List Line) → long_terms bound ls ≡ shown_longs (map (shown_line bound) ls)
+longs-same : (bound : Option ℕ) (ls : List GoalLine) → long_terms bound ls ≡ shown_longs (map (shown_line bound) ls)
 longs-same bound [] = refl
 longs-same bound (l ∷ ls) = ap (λ r. option_to_list (long_term bound l.term) ++ r) (longs-same bound ls)
 
-pub text-same : (bound : Option ℕ) (ls : List Line) → shown_lines_text (map (shown_line bound) ls) ≡ lines_text bound ls
+pub text-same : (bound : Option ℕ) (ls : List GoalLine) → shown_lines_text (map (shown_line bound) ls) ≡ goal_lines_text bound ls
 text-same bound ls =
     let longs = longs-same bound ls in
     (λ k. flat_map (shown_text (entries (sym longs k))) (map (shown_line bound) ls)

@@ -28,14 +28,14 @@ short_text bound t =
     if nat_le (node_count t) MAX_SHOWN then text_within (formula_in bound t) else None
 
 -- the term, unless it has a short text
-abbrev pub unless_short : Option (List ℕ) → Tree → Option Tree
-unless_short (Some text) t = None
-unless_short None t = Some t
+abbrev pub if_long : Option (List ℕ) → Tree → Option Tree
+if_long (Some text) t = None
+if_long None t = Some t
 
 -- the term, where there is one that has no short text
 abbrev pub long_term : Option ℕ → Option Tree → Option Tree
 long_term bound None = None
-long_term bound (Some t) = unless_short (short_text bound t) t
+long_term bound (Some t) = if_long (short_text bound t) t
 
 -- the short text, or the name of the term's entry
 abbrev pub text_or_name : List Tree → Tree → Option (List ℕ) → List ℕ

@@ -7,10 +7,10 @@ use Rattle.lf_terms.specs.Encoding.{form_encoding}
 use Rattle.lf_encode.specs.Reading.{form_of}
 use Rattle.prover_class.specs.Hypotheses.{Hyps}
 use Rattle.view_marks.specs.Hints.{known_hyps, missing_part, HintView, Plain, Bounds, Rights, hint_of}
-use Rattle.view_goal_text.specs.Lines.{Line, words, before, numbered}
+use Rattle.view_goal_text.specs.Lines.{GoalLine, plain_line, before, numbered}
 
 -- the missing part of a goal, unless that is the goal itself
-abbrev pub missing_lines : Tree → Tree → List Line
+abbrev pub missing_lines : Tree → Tree → List GoalLine
 missing_lines part goal =
     if tree_eq part goal then [] else before (codes "  missing: ") part ∷ []
 
@@ -21,23 +21,23 @@ bounds_label upper lower =
     ++ numbered (codes ", the right side at least ") lower
 
 -- the formulas that give rights to addresses with the same summands, or that there is none
-abbrev pub like_lines : List Tree → List Line
-like_lines [] = words (codes "  nothing known has this address's summands") ∷ []
+abbrev pub like_lines : List Tree → List GoalLine
+like_lines [] = plain_line (codes "  nothing known has this address's summands") ∷ []
 like_lines (t ∷ ts) = map (before (codes "  like it: ")) (t ∷ ts)
 
 -- what is said of the missing part
-abbrev pub said_lines : HintView → List Line
+abbrev pub said_lines : HintView → List GoalLine
 said_lines Plain = []
-said_lines (Bounds upper lower) = words (bounds_label upper lower) ∷ []
+said_lines (Bounds upper lower) = plain_line (bounds_label upper lower) ∷ []
 said_lines (Rights Fs) = like_lines (map form_encoding Fs)
 
 -- the missing part of a goal, and what is said of it under these hypotheses
-abbrev pub part_hint : Bool → Hyps → Form → Tree → List Line
+abbrev pub part_hint : Bool → Hyps → Form → Tree → List GoalLine
 part_hint counted Γ M goal =
     missing_lines (form_encoding M) goal ++ said_lines (hint_of counted Γ M)
 
 -- the hint of a goal where these terms are known
-unfoldable pub goal_hint : Bool → List Tree → Tree → List Line
+unfoldable pub goal_hint : Bool → List Tree → Tree → List GoalLine
 goal_hint counted known goal =
     let Γ : Hyps = known_hyps [] 0 (map form_of known) in
     part_hint counted Γ (missing_part counted Γ (form_of goal)) goal

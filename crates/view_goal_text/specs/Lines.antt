@@ -4,18 +4,18 @@ use Rattle.term_table.specs.Tree.{Tree}
 use Rattle.view_goals.specs.declared.rows.Why.{Why}
 use Rattle.view_goals.specs.declared.rows.Why.TheVariants as why
 
--- A line of the listing: what stands before its formula, and the formula as a term over the
--- machine's variables, where it has one.
-pub record Line : Type 0 where
+-- A line of the listing of goals: what stands before its formula, and the formula as a term over
+-- the machine's variables, where it has one.
+pub record GoalLine : Type 0 where
   pub label : List ℕ
   pub term : Option Tree
 
 -- a line of words alone
-abbrev pub words : List ℕ → Line
-words label = record { label = label; term = None }
+abbrev pub plain_line : List ℕ → GoalLine
+plain_line label = record { label = label; term = None }
 
 -- a line that ends with a formula
-abbrev pub before : List ℕ → Tree → Line
+abbrev pub before : List ℕ → Tree → GoalLine
 before label t = record { label = label; term = Some t }
 
 -- a word and the number behind it
@@ -66,6 +66,6 @@ known_label d i taken =
     numbered (codes "known ") d ++ (numbered (codes ", ") i ++ taken_text taken)
 
 -- the last line: the part of a number has a goal that isn't easy, or none has
-abbrev pub last_line : Option ℕ → List ℕ
-last_line None = codes "every goal is easy\n"
-last_line (Some k) = numbered (codes "not easy ") k ++ (10 ∷ [])
+abbrev pub verdict_line : Option ℕ → List ℕ
+verdict_line None = codes "every goal is easy\n"
+verdict_line (Some k) = numbered (codes "not easy ") k ++ (10 ∷ [])

@@ -13,17 +13,17 @@ use Rattle.vcgen.specs.Encoded.{annotated}
 use Rattle.pcc_gate.specs.First.{formulas, front_refusal}
 use Rattle.pcc_gate.specs.declared.refusal.Refusal.{Refusal}
 use Rattle.pcc_gate.specs.declared.refusal.Refusal.TheVariants as refusal
-use Rattle.view_goals.specs.Goals.{Part, entry_goals, inv_goals}
-use Rattle.view_goals.specs.Rows.{RowView, GoalRow, BothRow, UnderRow, PartView, shown_part}
+use Rattle.view_goals.specs.Goals.{PartGoals, entry_goals, inv_goals}
+use Rattle.view_goals.specs.Rows.{RowView, GoalRow, BothRow, UnderRow, PartRowsView, shown_part}
 use Rattle.view_marks.specs.Marks.{part_form, part_marks, first_unmarked}
-use Rattle.view_goal_text.specs.Lines.{Line, words, before, part_title, start_label, goal_label, known_label, last_line}
+use Rattle.view_goal_text.specs.Lines.{GoalLine, plain_line, before, part_title, start_label, goal_label, known_label, verdict_line}
 use Rattle.view_goal_text.specs.Hints.{goal_hint}
-use Rattle.view_goal_text.specs.Texts.{lines_text}
+use Rattle.view_goal_text.specs.Texts.{goal_lines_text}
 
 -- ---- rows
 
 -- the line of a row; two that are both asked have none
-abbrev pub row_line : RowView → Bool → List Line
+abbrev pub row_line : RowView → Bool → List GoalLine
 row_line (GoalRow i w t d) easy = before (goal_label i w d easy) t ∷ []
 row_line BothRow easy = []
 row_line (UnderRow i taken t d) easy = before (known_label (d + 1) i taken) t ∷ []
@@ -41,7 +41,7 @@ is_hard BothRow easy = false
 is_hard (UnderRow i taken t d) easy = false
 
 -- the hint at a row, where it is wanted: of the goal, under what is known there
-abbrev pub row_hint : Bool → Bool → List Tree → RowView → List Line
+abbrev pub row_hint : Bool → Bool → List Tree → RowView → List GoalLine
 row_hint true counted known (GoalRow i w t d) = goal_hint counted (take (d + 1) known) t
 row_hint wanted counted known r = []
 
@@ -53,7 +53,7 @@ known_after known (UnderRow i taken t d) = take (d + 1) known ++ t ∷ []
 
 -- The lines of rows, whose goals have these marks in order. The first goal that isn't easy is
 -- followed by its hint, where that is due.
-abbrev pub row_lines : Bool → Bool → List Tree → List RowView → List Bool → List Line
+abbrev pub row_lines : Bool → Bool → List Tree → List RowView → List Bool → List GoalLine
 row_lines counted due known [] marks = []
 row_lines counted due known (r ∷ rows) marks =
     let easy : Bool = slice_index_or marks 0 false in
@@ -63,35 +63,35 @@ row_lines counted due known (r ∷ rows) marks =
     (drop (goal_count r) marks))
 
 -- the lines of the part of a number, whose goals have these marks
-abbrev pub view_lines : Bool → ℕ → PartView → List Bool → List Line
+abbrev pub view_lines : Bool → ℕ → PartRowsView → List Bool → List GoalLine
 view_lines counted k p marks =
-    words (part_title k p.at) ∷ before start_label p.known
+    plain_line (part_title k p.at) ∷ before start_label p.known
     ∷ row_lines counted true (p.known ∷ []) p.rows marks
 
 -- ---- parts
 
 -- the part of a condition as terms
-abbrev pub view_of : Option ℕ → Part → PartView
+abbrev pub view_of : Option ℕ → PartGoals → PartRowsView
 view_of bound p = shown_part bound (part_form bound p) p
 
 -- the lines of the parts of a condition, the first having the number k
-abbrev pub parts_lines : Option ℕ → ℕ → List Part → List Line
+abbrev pub parts_lines : Option ℕ → ℕ → List PartGoals → List GoalLine
 parts_lines bound k [] = []
 parts_lines bound k (p ∷ ps) =
     view_lines (is_some bound) k (view_of bound p) (part_marks (is_some bound) p)
     ++ parts_lines bound (suc k) ps
 
 -- the number of the first part with a goal that isn't easy, the first having the number k
-abbrev pub first_hard : Option ℕ → ℕ → List Part → Option ℕ
+abbrev pub first_hard : Option ℕ → ℕ → List PartGoals → Option ℕ
 first_hard bound k ps = first_unmarked k (map (part_marks (is_some bound)) ps)
 
 -- the lines of all parts with the entries that they name, and the last line
-abbrev pub parts_text : Option ℕ → List Part → List ℕ
+abbrev pub parts_text : Option ℕ → List PartGoals → List ℕ
 parts_text bound ps =
-    lines_text bound (parts_lines bound 0 ps) ++ last_line (first_hard bound 0 ps)
+    goal_lines_text bound (parts_lines bound 0 ps) ++ verdict_line (first_hard bound 0 ps)
 
 -- the parts of the condition of annotated code: the start's, then those of its invariants
-abbrev pub goal_parts : AnnotatedCode → List Part
+abbrev pub goal_parts : AnnotatedCode → List PartGoals
 goal_parts c = entry_goals c ∷ map (inv_goals c) c.invs
 
 -- the listing of the goals of a container's contents and their code under a policy

@@ -8,7 +8,7 @@ ghost use Rattle.proof_container.specs.Postorder.{is_emitted, HasPartsFirst, Are
 ghost use Rattle.proof_container.specs.Encoding.{entry_number};
 ghost use Rattle.proof_container.specs.Walks.{IsLeft};
 ghost use Rattle.proof_container.specs.Inside.Walked.{left_trees};
-ghost use Rattle.view_goal_text.specs.Inside.Copies.{IsBegun};
+ghost use Rattle.view_goal_text.specs.Inside.Copies.{IsBegunCopy};
 
 use proof_container::Walk;
 use std::alloc::{AllocError, Global};
@@ -30,7 +30,7 @@ pub(crate) fn number(table: &Table, walk: &Walk, id: Id) -> u64
 
 /// The id in the copy of a tree that it has.
 fn copied(table: &Table, walk: &Walk, copy: &Table, part: Id) -> Id
-    requires begun { IsBegun table.now walk.now copy.now }
+    requires begun { IsBegunCopy table.now walk.now copy.now }
     requires known { IsKnown table.now part }
     requires listed { is_emitted (tree_at table.now part) copy.now.trees ≡ true }
     ensures known { IsKnown copy.now result }
@@ -42,7 +42,7 @@ fn copied(table: &Table, walk: &Walk, copy: &Table, part: Id) -> Id
 
 /// The node with the copy's ids of its parts.
 fn copied_node(table: &Table, walk: &Walk, copy: &Table, node: Node) -> Node
-    requires begun { IsBegun table.now walk.now copy.now }
+    requires begun { IsBegunCopy table.now walk.now copy.now }
     requires known { PartsKnown table.now node }
     requires listed { HasPartsFirst copy.now.trees (node_tree table.now node) }
     ensures known { PartsKnown copy.now result }
@@ -81,7 +81,7 @@ fn copied_node(table: &Table, walk: &Walk, copy: &Table, node: Node) -> Node
 
 /// Adds the tree of an id to the copy, which has its parts.
 fn copy_tree(table: &Table, walk: &Walk, copy: &mut Table, id: Id) -> Result<(), AllocError>
-    requires begun { IsBegun table.now walk.now copy.old }
+    requires begun { IsBegunCopy table.now walk.now copy.old }
     requires known { IsKnown table.now id }
     requires parts { HasPartsFirst copy.old.trees (tree_at table.now id) }
     requires new { is_emitted (tree_at table.now id) copy.old.trees ≡ false }

@@ -8,7 +8,7 @@ ghost use Rattle.term_table.specs.Table.{IsKnown, PartsKnown, tree_at, Extends};
 ghost use Rattle.formula_tree.specs.Views.{form_view};
 ghost use Rattle.view_entries.specs.Sizes.{node_count};
 ghost use Rattle.view_goal_text.specs.Formulas.{formula_in, text_within, short_text};
-ghost use Rattle.view_goal_text.specs.Inside.Nodes.{rest_of, rest_behind, rest_of_node};
+ghost use Rattle.view_goal_text.specs.Inside.Nodes.{rest_after_tree, rest_behind, rest_of_node};
 
 use crate::limits::MAX_SHOWN;
 use formula_text::print_form;
@@ -24,7 +24,7 @@ fn rest_of_both(table: &Table, a: Id, b: Id, budget: u32) -> Option<u32>
     requires a { IsKnown table.now a }
     requires b { IsKnown table.now b }
     ensures exact { let t = table.now in
-        result ≡ rest_behind (rest_of budget (tree_at t a)) (tree_at t b) }
+        result ≡ rest_behind (rest_after_tree budget (tree_at t a)) (tree_at t b) }
     ensures less { IfSome result (λ rest. rest ≤ budget) }
 {
     match rest_of(table, a, budget) {
@@ -56,7 +56,7 @@ fn rest_of_node(table: &Table, node: Node, budget: u32) -> Option<u32>
 #[tactic(auto, using(crate::proofs::Nodes::none_left))]
 fn rest_of(table: &Table, id: Id, budget: u32) -> Option<u32>
     requires { IsKnown table.now id }
-    ensures exact { result ≡ rest_of budget (tree_at table.now id) }
+    ensures exact { result ≡ rest_after_tree budget (tree_at table.now id) }
     ensures less { IfSome result (λ rest. rest ≤ budget) }
 {
     if budget == 0 {

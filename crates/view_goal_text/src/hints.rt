@@ -9,7 +9,7 @@ ghost use Rattle.term_table.specs.Table.{IsKnown, AllKnown, tree_at, Extends};
 ghost use Rattle.prover_goals.specs.Search.{IsSearch};
 ghost use Rattle.view_marks.specs.Hints.{HintView};
 ghost use Rattle.view_marks.specs.Answers.{IsHint, IsKnownHint};
-ghost use Rattle.view_goal_text.specs.Lines.{words, before};
+ghost use Rattle.view_goal_text.specs.Lines.{plain_line, before};
 ghost use Rattle.view_goal_text.specs.Hints.{missing_lines, bounds_label, like_lines, said_lines};
 ghost use Rattle.view_goal_text.specs.Hints.{goal_hint};
 ghost use Rattle.view_goal_text.specs.Inside.FormTerms.{IsFormTerm, AreFormTerms};
@@ -118,7 +118,7 @@ fn push_bounds(
     requires { AreKnownLines table.now lines.old.items }
     ensures exact { (bound : Option ℕ) → OnOk result
         (AreAdded bound table.now table.now lines.old.items
-        (words (bounds_label upper lower) ∷ []) lines.new.items) }
+        (plain_line (bounds_label upper lower) ∷ []) lines.new.items) }
     ensures known { OnOk result (AreKnownLines table.now lines.new.items) }
 {
     let label = bounds_label(table.allocator(), upper, lower)?;

@@ -5,7 +5,7 @@
 ghost use Rattle.std.specs.Prelude.{◌≡◌, ◌++◌, IfOk, OnOk, decimal};
 ghost use Rattle.view_goal_text.specs.Lines.{numbered, part_title, why_text, mark_text};
 ghost use Rattle.view_goal_text.specs.Hints.{bounds_label};
-ghost use Rattle.view_goal_text.specs.Lines.{taken_text, goal_label, known_label, last_line};
+ghost use Rattle.view_goal_text.specs.Lines.{taken_text, goal_label, known_label, verdict_line};
 
 use itoa::Buffer;
 use std::alloc::{AllocError, Global};
@@ -159,7 +159,7 @@ pub(crate) fn known_label(
 
 /// Appends the last line.
 pub(crate) fn push_last(out: &mut Vec<u8>, hard: Option<usize>) -> Result<(), AllocError>
-    ensures { OnOk result (out.new.items ≡ out.old.items ++ last_line hard) }
+    ensures { OnOk result (out.new.items ≡ out.old.items ++ verdict_line hard) }
 {
     match hard {
         None => out.extend_from_slice(b"every goal is easy\n"),

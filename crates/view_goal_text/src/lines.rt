@@ -4,7 +4,7 @@
 
 ghost use Rattle.std.specs.Prelude.{◌≡◌, ◌∷◌, [], ℕ, Option, IfOk, OnOk};
 ghost use Rattle.term_table.specs.Table.{IsKnown, tree_at, Extends};
-ghost use Rattle.view_goal_text.specs.Lines.{words, before};
+ghost use Rattle.view_goal_text.specs.Lines.{plain_line, before};
 ghost use Rattle.view_goal_text.specs.Inside.Shown.{shown_line, line_view, HasKnownLong};
 ghost use Rattle.view_goal_text.specs.Inside.Shown.{AreKnownLines, AreAdded};
 
@@ -53,7 +53,7 @@ pub(crate) fn push_words(
 ) -> Result<(), AllocError>
     requires { AreKnownLines table.now lines.old.items }
     ensures exact { (bound : Option ℕ) → OnOk result
-        (AreAdded bound table.now table.now lines.old.items (words label.items ∷ [])
+        (AreAdded bound table.now table.now lines.old.items (plain_line label.items ∷ [])
         lines.new.items) }
     ensures known { OnOk result (AreKnownLines table.now lines.new.items) }
 {

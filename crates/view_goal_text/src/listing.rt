@@ -12,7 +12,7 @@ ghost use Rattle.pcc_gate.specs.First.{formulas, front_refusal};
 ghost use Rattle.pcc_gate.specs.Passing.{Passes};
 ghost use Rattle.pcc_gate.specs.Answers.{IsHeld};
 ghost use Rattle.view_goals.specs.Rows.{part_view, HasKnownIds};
-ghost use Rattle.view_goals.specs.Goals.{Part};
+ghost use Rattle.view_goals.specs.Goals.{PartGoals};
 ghost use Rattle.view_goal_text.specs.Listing.{view_of, goal_parts, parts_text, goals_text};
 ghost use Rattle.view_goal_text.specs.Answers.{IsGoalsAnswer};
 
@@ -57,7 +57,8 @@ fn parts_of(
 /// The text of the parts.
 fn text_of(table: &mut Table, bound: Option<u32>, parts: &[PartRows]) -> Result<Vec<u8>, Exhausted>
     requires { All (HasKnownIds table.old) parts.now }
-    ensures exact { (ps : List Part) → map (part_view table.old) parts.now ≡ map (view_of bound) ps
+    ensures exact { (ps : List PartGoals)
+        → map (part_view table.old) parts.now ≡ map (view_of bound) ps
         → IfOk result (λ v. v.items ≡ parts_text bound ps) }
 {
     let mut search = Search::new(table, MOST_SEARCHED);

@@ -10,7 +10,7 @@ ghost use Rattle.proof_container.specs.Postorder.{is_emitted, AreEmitted};
 ghost use Rattle.proof_container.specs.Walks.{IsLeft};
 ghost use Rattle.proof_container.specs.Inside.Walked.{left_trees};
 ghost use Rattle.view_entries.specs.Entries.{entry_name, entry_line};
-ghost use Rattle.view_goal_text.specs.Texts.{ended, entries_text};
+ghost use Rattle.view_goal_text.specs.Texts.{with_lf, entries_text};
 ghost use Rattle.view_goal_text.specs.Inside.Shown.{line_view, HasKnownLong, AreKnownLines};
 ghost use Rattle.view_goal_text.specs.Inside.Shown.{name_part, shown_text, shown_longs};
 ghost use Rattle.view_goal_text.specs.Inside.Shown.{shown_lines_text};
@@ -128,7 +128,7 @@ fn push_lines(
 fn push_entry_line(out: &mut Vec<u8>, table: &Table, id: Id) -> Result<(), AllocError>
     requires { IsKnown table.now id }
     ensures { OnOk result (out.new.items
-        ≡ out.old.items ++ ended (entry_line table.now.trees id)) }
+        ≡ out.old.items ++ with_lf (entry_line table.now.trees id)) }
 {
     push_entry(out, table, id)?;
     out.push(b'\n')?;

@@ -12,10 +12,10 @@ use Rattle.lf_encode.proofs.MachineContext.{encoding-machine, encoding-left}
 use Rattle.prover_class.specs.Parts.{conjoined}
 use Rattle.vcgen.specs.Conditions.{AnnotatedCode, invariant_at, alls, close, entered, entry_part, inv_part}
 use Rattle.vcgen.specs.Encoded.{context_of}
-use Rattle.view_goals.specs.Goals.{Part, asked, goals_with, goals_within, entry_goals, inv_goals}
+use Rattle.view_goals.specs.Goals.{PartGoals, asked, goals_with, goals_within, entry_goals, inv_goals}
 use Rattle.view_goals.specs.Rows.{goal_rows, shown_part, shown_parts, IsCodeOf}
-use Rattle.view_goals.specs.Laws.{part_of}
-use Rattle.view_goals.specs.Inside.Reading.{left_of, right_of, under}
+use Rattle.view_goals.specs.Laws.{part_formula}
+use Rattle.view_goals.specs.Inside.Reading.{first_argument, last_argument, under}
 use Rattle.view_goals.specs.Inside.Outlines.{Outline, outline, outline_within, rows_by}
 use Rattle.view_goals.specs.Inside.Parts.{implication, part_by, inv_outline, inv_parts_by, parts_by}
 use Rattle.view_goals.proofs.Asked.{asked-with, entry-is, inv-is}
@@ -47,16 +47,17 @@ encoded (Some b) F = sym (encoding-left F)
 
 -- ---- one part
 
-part-is : (bound : Option ℕ) (p : Part)
+part-is : (bound : Option ℕ) (p : PartGoals)
     → part_by (is_some bound) p.at (outline p.goals) (form_encoding (close bound (FImp p.known (asked p.goals))))
     ≡ shown_part bound (close bound (FImp p.known (asked p.goals))) p
 part-is bound p =
     let whole = form_encoding (close bound (FImp p.known (asked p.goals))) in
     let stands = implication-is bound (FImp p.known (asked p.goals)) in
-    let known : left_of (implication (is_some bound) whole) ≡ encoding_in (context_of bound) p.known = ap left_of stands ∙ encoded bound p.known in
-    let read : right_of (implication (is_some bound) whole) ≡ form_encoding (asked (goals_with (λ F. subst_form F machine_names) p.goals)) =
-    ap right_of stands ∙ ap form_encoding (sym (asked-with machine_names p.goals)) in
-    let rows : rows_by 0 (outline p.goals) (right_of (implication (is_some bound) whole)) ≡ goal_rows (encoding_in (context_of bound)) 0 p.goals =
+    let known : first_argument (implication (is_some bound) whole) ≡ encoding_in (context_of bound) p.known =
+    ap first_argument stands ∙ encoded bound p.known in
+    let read : last_argument (implication (is_some bound) whole) ≡ form_encoding (asked (goals_with (λ F. subst_form F machine_names) p.goals)) =
+    ap last_argument stands ∙ ap form_encoding (sym (asked-with machine_names p.goals)) in
+    let rows : rows_by 0 (outline p.goals) (last_argument (implication (is_some bound) whole)) ≡ goal_rows (encoding_in (context_of bound)) 0 p.goals =
     ap (rows_by 0 (outline p.goals)) read ∙ rows-by (λ F. subst_form F machine_names) 0 p.goals
     ∙ ap (λ (f : Form → Tree). goal_rows f 0 p.goals) (λ i F. encoded bound F i) in
     λ i. record { at = p.at; formula = whole; known = known i; rows = rows i }
@@ -71,7 +72,7 @@ module _ (c : AnnotatedCode) (marks : List Bool) (are : (j : ℕ) → is_some (i
       let same = outline-with (entered c.bound) (goals_within c (length c.code) 0 0) ∙ outline-within c marks are (length c.code) 0 0 in
       subst (λ (F : Form). part_by (is_some c.bound) 0 all (form_encoding F) ≡ shown_part c.bound F (entry_goals c))
       (entry-is c)
-      (ap (λ (T : Outline). part_by (is_some c.bound) 0 T (form_encoding (part_of c (entry_goals c)))) (sym same) ∙ part-is c.bound (entry_goals c))
+      (ap (λ (T : Outline). part_by (is_some c.bound) 0 T (form_encoding (part_formula c (entry_goals c)))) (sym same) ∙ part-is c.bound (entry_goals c))
 
   one-part : (p : ℕ × Form) → part_by (is_some c.bound) p.0 (inv_outline c.code marks (is_some c.bound) p.0) (form_encoding (inv_part c p))
       ≡ shown_part c.bound (inv_part c p) (inv_goals c p)
@@ -81,7 +82,7 @@ module _ (c : AnnotatedCode) (marks : List Bool) (are : (j : ℕ) → is_some (i
       let all = inv_outline c.code marks (is_some c.bound) p.0 in
       subst (λ (F : Form). part_by (is_some c.bound) p.0 all (form_encoding F) ≡ shown_part c.bound F (inv_goals c p))
       (inv-is c p)
-      (ap (λ (T : Outline). part_by (is_some c.bound) p.0 T (form_encoding (part_of c (inv_goals c p)))) (sym same) ∙ part-is c.bound (inv_goals c p))
+      (ap (λ (T : Outline). part_by (is_some c.bound) p.0 T (form_encoding (part_formula c (inv_goals c p)))) (sym same) ∙ part-is c.bound (inv_goals c p))
 
   inv-parts : (ps : List (ℕ × Form)) → inv_parts_by c.code marks (is_some c.bound) (map (λ p. p.0) ps) (form_encoding (conjoined (map (inv_part c) ps)))
       ≡ map (λ p. shown_part c.bound (inv_part c p) (inv_goals c p)) ps

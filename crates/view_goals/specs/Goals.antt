@@ -97,13 +97,13 @@ goals_within c (suc n) from i =
 
 -- A part: what is known where it begins, at this index, and what is then asked. At the start of
 -- code that is the precondition, and all steps are left; at an annotated index its invariant.
-pub record Part : Type 0 where
+pub record PartGoals : Type 0 where
   pub at : ℕ
   pub known : Form
   pub goals : Goals
 
 -- the part of the start
-abbrev pub entry_goals : AnnotatedCode → Part
+abbrev pub entry_goals : AnnotatedCode → PartGoals
 entry_goals c = record {
   at = 0;
   known = c.pre;
@@ -111,7 +111,7 @@ entry_goals c = record {
 }
 
 -- the part of an annotated index
-abbrev pub inv_goals : AnnotatedCode → ℕ × Form → Part
+abbrev pub inv_goals : AnnotatedCode → ℕ × Form → PartGoals
 inv_goals c p = record {
   at = p.0;
   known = p.1;

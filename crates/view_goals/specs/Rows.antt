@@ -12,7 +12,7 @@ use Rattle.view_goals.specs.declared.rows.Why.{Why}
 use Rattle.view_goals.specs.declared.rows.Row.{Row}
 use Rattle.view_goals.specs.declared.rows.Row.TheVariants as row
 use Rattle.view_goals.specs.declared.rows.PartRows.{PartRows}
-use Rattle.view_goals.specs.Goals.{Goals, Goal, Both, Under, Part, entry_goals, inv_goals}
+use Rattle.view_goals.specs.Goals.{Goals, Goal, Both, Under, PartGoals, entry_goals, inv_goals}
 
 -- A row: a goal by its index, why it is asked, its formula as a term and how many branches it
 -- stands under; two that are both asked; or a branch by its index, whether it is taken, what is
@@ -44,14 +44,14 @@ goal_rows encode d (Under i taken A T) =
 -- ---- the parts
 
 -- a part: its index, itself as a term, what is known where it begins, and its rows
-pub record PartView : Type 0 where
+pub record PartRowsView : Type 0 where
   pub at : ℕ
   pub formula : Tree
   pub known : Tree
   pub rows : List RowView
 
 -- a part of ids, by the trees that they stand for
-abbrev pub part_view : TableView → PartRows → PartView
+abbrev pub part_view : TableView → PartRows → PartRowsView
 part_view t p = record {
   at = p.at;
   formula = tree_at t p.formula;
@@ -64,7 +64,7 @@ abbrev pub HasKnownIds : TableView → PartRows → Type 0
 HasKnownIds t p = IsKnown t p.formula × IsKnown t p.known × All (HasKnownId t) p.rows.items
 
 -- a part of the condition of code with that bound, whose goals are these
-abbrev pub shown_part : Option ℕ → Form → Part → PartView
+abbrev pub shown_part : Option ℕ → Form → PartGoals → PartRowsView
 shown_part bound A p = record {
   at = p.at;
   formula = form_encoding A;
@@ -73,7 +73,7 @@ shown_part bound A p = record {
 }
 
 -- the parts of the condition: that of the start, then that of each invariant
-abbrev pub shown_parts : AnnotatedCode → List PartView
+abbrev pub shown_parts : AnnotatedCode → List PartRowsView
 shown_parts c =
     shown_part c.bound (entry_part c) (entry_goals c)
     ∷ map (λ p. shown_part c.bound (inv_part c p) (inv_goals c p)) c.invs

@@ -3,14 +3,15 @@
 
 ghost use Rattle.std.specs.Prelude.{◌≡◌};
 ghost use Rattle.term_table.specs.Table.{IsKnown, tree_at};
-ghost use Rattle.view_goals.specs.Inside.Reading.{right_of, left_of, under_binder, body_of, under};
+ghost use Rattle.view_goals.specs.Inside.Reading.{last_argument, first_argument, lambda_body};
+ghost use Rattle.view_goals.specs.Inside.Reading.{body_of, under};
 
 use term_table::{Id, Node, Table};
 
 /// Returns the second side of a connective, or the function that a quantifier is applied to.
 pub(crate) fn right(table: &Table, id: Id) -> Id
     requires { IsKnown table.now id }
-    ensures is { tree_at table.now result ≡ right_of (tree_at table.now id) }
+    ensures is { tree_at table.now result ≡ last_argument (tree_at table.now id) }
     ensures known { IsKnown table.now result }
 {
     match table.node(id) {
@@ -32,7 +33,7 @@ pub(crate) fn right(table: &Table, id: Id) -> Id
 /// Returns the first side of a connective.
 pub(crate) fn left(table: &Table, id: Id) -> Id
     requires { IsKnown table.now id }
-    ensures is { tree_at table.now result ≡ left_of (tree_at table.now id) }
+    ensures is { tree_at table.now result ≡ first_argument (tree_at table.now id) }
     ensures known { IsKnown table.now result }
 {
     match table.node(id) {
@@ -54,7 +55,7 @@ pub(crate) fn left(table: &Table, id: Id) -> Id
 /// Returns the body of a binder.
 fn under_binder(table: &Table, id: Id) -> Id
     requires { IsKnown table.now id }
-    ensures is { tree_at table.now result ≡ under_binder (tree_at table.now id) }
+    ensures is { tree_at table.now result ≡ lambda_body (tree_at table.now id) }
     ensures known { IsKnown table.now result }
 {
     match table.node(id) {

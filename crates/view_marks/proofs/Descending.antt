@@ -23,13 +23,13 @@ use Rattle.prover_goals.specs.Search.{IsAfter}
 use Rattle.prover_goals.specs.Contexts.{IsUnderHypothesis}
 use Rattle.prover_goals.specs.declared.search.Search.{Search}
 use Rattle.prover_goals.specs.declared.search.Context.{Context}
-use Rattle.view_goals.specs.Goals.{Goals, Goal, Both, Under, Part, asked}
-use Rattle.view_goals.specs.Rows.{RowView, GoalRow, BothRow, UnderRow, row_view, goal_rows, PartView, part_view, shown_part}
+use Rattle.view_goals.specs.Goals.{Goals, Goal, Both, Under, PartGoals, asked}
+use Rattle.view_goals.specs.Rows.{RowView, GoalRow, BothRow, UnderRow, row_view, goal_rows, PartRowsView, part_view, shown_part}
 use Rattle.view_goals.specs.declared.rows.Row.{Row}
 use Rattle.view_goals.specs.declared.rows.Row.TheVariants as R
 use Rattle.view_goals.specs.declared.rows.PartRows.{PartRows}
 use Rattle.view_marks.specs.Marks.{is_easy, assuming, marks, part_form, part_marks}
-use Rattle.view_marks.specs.Inside.Shapes.{Kind, Alone, Two, Given, kinds, kind_of}
+use Rattle.view_marks.specs.Inside.Shapes.{RowKind, Alone, Two, Given, kinds, row_kind}
 use Rattle.view_marks.specs.Inside.Marking.{AreAllEasy, AreGoalsAt, AreMarked, ArePartsMarked, AreBothMarked, AreUnderMarked, unquantified, IsPartMarked}
 use Rattle.view_marks.proofs.Wholes.{writes-names, writes-raised}
 use Rattle.view_marks.proofs.Pushing.{marks-easy, marks-under}
@@ -59,7 +59,7 @@ unquantified-part (Some b) A B = unquantified-alls 31 (subst_form (FImp A B) mac
 -- ---- later tables
 
 pub later : (t u : TableView) (hyps : List Hypothesis) (goal : ℕ) (rows : List Row) (Γ : Hyps)
-    (here : Form → Form) (T : Goals) (shape : List Kind) → AreKnownHyps t hyps → IsKnown t goal
+    (here : Form → Form) (T : Goals) (shape : List RowKind) → AreKnownHyps t hyps → IsKnown t goal
     → Extends t u → AreGoalsAt t hyps goal rows Γ here T shape
     → AreGoalsAt u hyps goal rows Γ here T shape
 later t u hyps goal rows Γ here T shape k i x g = record {
@@ -77,7 +77,7 @@ found-easy u z (Some id) b e s = ap is_some s.1 ∙ e
 
 pub easy-is : (counted : Bool) (t u : TableView) (hyps : List Hypothesis) (out goal : ℕ)
     (o : Option ℕ) (b : Bool) (rows : List Row) (Γ : Hyps) (here : Form → Form) (T : Goals)
-    (shape : List Kind)
+    (shape : List RowKind)
     → is_some o ≡ b → IsProofBy (whole_proof (by_all_means counted)) t u hyps out goal o
     → AreGoalsAt t hyps goal rows Γ here T shape
     → is_easy counted out Γ (here (asked T)) ≡ b
@@ -214,13 +214,13 @@ part-parts counted t u v s c d inner o rows rest old new none out k x y a e h un
     ∙ ap (λ z. old ++ z) (sym (marks-under counted 33 [] here i taken A T is33))
 
 -- the kind of a row as it is shown
-abbrev kind_shown : RowView → Kind
+abbrev kind_shown : RowView → RowKind
 kind_shown (GoalRow i w A d) = Alone
 kind_shown BothRow = Two
 kind_shown (UnderRow i taken A d) = Given
 
 kinds_viewed : (t : TableView) (rows : List Row)
-    → map kind_of rows ≡ map kind_shown (map (row_view t) rows)
+    → map row_kind rows ≡ map kind_shown (map (row_view t) rows)
 kinds_viewed t [] = refl
 kinds_viewed t (R.Goal i w A d ∷ rows) = ap (λ z. Alone ∷ z) (kinds_viewed t rows)
 kinds_viewed t (R.Both ∷ rows) = ap (λ z. Two ∷ z) (kinds_viewed t rows)
@@ -237,7 +237,7 @@ kinds_of_goals encode d (Under i taken A T) =
 
 -- the marks of a part, behind none
 pub part-of : (counted : Bool) (t : TableView) (part : PartRows) (inner : ℕ) (new : List Bool)
-    (bound : Option ℕ) (p : Part)
+    (bound : Option ℕ) (p : PartGoals)
     → ((A : Form) → tree_at t part.formula ≡ form_encoding A
     → tree_at t inner ≡ form_encoding (unquantified A))
     → IsPartMarked counted t inner part.rows.items [] new
@@ -246,9 +246,9 @@ part-of counted t part inner new bound p is marked e =
     marked (λ F. subst_form F machine_names) p.at true p.known p.goals (record {
       writing = writes-names;
       hyps_are = tt;
-      goal_is = is (part_form bound p) (ap (λ (v : PartView). v.formula) e)
+      goal_is = is (part_form bound p) (ap (λ (v : PartRowsView). v.formula) e)
           ∙ ap form_encoding (unquantified-part bound p.known (asked p.goals));
       rows_are = kinds_viewed t part.rows.items
-          ∙ ap (λ (v : PartView). map kind_shown v.rows) e
+          ∙ ap (λ (v : PartRowsView). map kind_shown v.rows) e
           ∙ kinds_of_goals (encoding_in (context_of bound)) 0 p.goals;
     })

@@ -7,8 +7,8 @@ use Rattle.prover_ids.specs.declared.hypotheses.Hypothesis.{Hypothesis}
 use Rattle.prover_class.specs.Hypotheses.{Hyps}
 use Rattle.view_goals.specs.Goals.{Goals, Goal, Both, Under, asked}
 use Rattle.view_goals.specs.declared.rows.Row.{Row}
-use Rattle.view_marks.specs.Marks.{is_easy, count_of, all_or, assuming, marks}
-use Rattle.view_marks.specs.Inside.Shapes.{Kind, Alone, Two, Given, kinds, kind_of}
+use Rattle.view_marks.specs.Marks.{is_easy, count_of_goals, all_or, assuming, marks}
+use Rattle.view_marks.specs.Inside.Shapes.{RowKind, Alone, Two, Given, kinds, row_kind}
 use Rattle.view_marks.specs.Inside.Marking.{AreAllEasy, AreBothMarked, AreUnderMarked, ArePartsMarked}
 
 -- what follows holds of Ok
@@ -20,28 +20,28 @@ if_ok (Err e) f p = tt
 -- ---- kinds
 
 -- goals have a row
-some_row : (T : Goals) (left : List Kind) → [] ≡ kinds T ++ left → ⊥
+some_row : (T : Goals) (left : List RowKind) → [] ≡ kinds T ++ left → ⊥
 some_row (Goal i w A) left h = cc
 some_row (Both S T) left h = cc
 some_row (Under i taken A T) left h = cc
 
 -- the kinds of rows: that of the first, then those of the others
-abbrev pub StartsWith : List Row → Kind → List Row → Type 0
-StartsWith rows k rest = map kind_of rows ≡ k ∷ map kind_of rest
+abbrev pub StartsWith : List Row → RowKind → List Row → Type 0
+StartsWith rows k rest = map row_kind rows ≡ k ∷ map row_kind rest
 
 -- rows in two
-pub starts : (rows : List Row) (r : Row) (k : Kind) → 1 ≤ length rows → r ≡ get_or rows 0 r
-    → kind_of r ≡ k → StartsWith rows k (take (length rows - 1) (drop 1 rows))
+pub starts : (rows : List Row) (r : Row) (k : RowKind) → 1 ≤ length rows → r ≡ get_or rows 0 r
+    → row_kind r ≡ k → StartsWith rows k (take (length rows - 1) (drop 1 rows))
 starts [] r k h e is = absurd (omega (arith, h))
 starts (x ∷ rows) r k h e is =
-    λ i. (ap kind_of (sym e) ∙ is) i
-    ∷ map kind_of (sym (take_all (suc (length rows) - 1) rows (omega arith)) i)
+    λ i. (ap row_kind (sym e) ∙ is) i
+    ∷ map row_kind (sym (take_all (suc (length rows) - 1) rows (omega arith)) i)
 
-behind : {k m : Kind} {l r : List Kind} → k ∷ l ≡ m ∷ r → l ≡ r
+behind : {k m : RowKind} {l r : List RowKind} → k ∷ l ≡ m ∷ r → l ≡ r
 behind h = ap (drop 1) h
 
 -- what is left of two behind those of the first
-left_of_two : (S T : Goals) (l left : List Kind) → l ≡ (kinds S ++ kinds T) ++ left
+left_of_two : (S T : Goals) (l left : List RowKind) → l ≡ (kinds S ++ kinds T) ++ left
     → l ≡ kinds S ++ (kinds T ++ left)
 left_of_two S T l left h = h ∙ append_assoc (kinds S) (kinds T) left
 
@@ -59,10 +59,10 @@ easy-alone rows rest old new s e = go
     go : AreAllEasy rows old new rest
     go (Goal i w A) left h = record { marks = e; others = behind (sym s ∙ h) }
     go (Both S T) left h =
-        let wrong : Alone ∷ map kind_of rest ≡ Two ∷ ((kinds S ++ kinds T) ++ left) = sym s ∙ h in
+        let wrong : Alone ∷ map row_kind rest ≡ Two ∷ ((kinds S ++ kinds T) ++ left) = sym s ∙ h in
         cc
     go (Under i taken A T) left h =
-        let wrong : Alone ∷ map kind_of rest ≡ Given ∷ (kinds T ++ left) = sym s ∙ h in cc
+        let wrong : Alone ∷ map row_kind rest ≡ Given ∷ (kinds T ++ left) = sym s ∙ h in cc
 
 pub easy-two : (rows rest middle end : List Row) (old mid new : List Bool)
     → StartsWith rows Two rest → AreAllEasy rest old mid middle → AreAllEasy middle mid new end
@@ -71,19 +71,19 @@ easy-two rows rest middle end old mid new s first second = go
   where
     go : AreAllEasy rows old new end
     go (Goal i w A) left h =
-        let wrong : Two ∷ map kind_of rest ≡ Alone ∷ left = sym s ∙ h in cc
+        let wrong : Two ∷ map row_kind rest ≡ Alone ∷ left = sym s ∙ h in cc
     go (Both S T) left h =
-        let a = first S (kinds T ++ left) (left_of_two S T (map kind_of rest) left (behind (sym s ∙ h))) in
+        let a = first S (kinds T ++ left) (left_of_two S T (map row_kind rest) left (behind (sym s ∙ h))) in
         let b = second T left a.others in
-        let l = replicate (count_of S) true in
-        let r = replicate (count_of T) true in
+        let l = replicate (count_of_goals S) true in
+        let r = replicate (count_of_goals T) true in
         record {
           marks = b.marks ∙ ap (λ z. z ++ r) a.marks ∙ append_assoc old l r
-              ∙ ap (λ z. old ++ z) (replicate-append-replicate (count_of S) (count_of T) true);
+              ∙ ap (λ z. old ++ z) (replicate-append-replicate (count_of_goals S) (count_of_goals T) true);
           others = b.others;
         }
     go (Under i taken A T) left h =
-        let wrong : Two ∷ map kind_of rest ≡ Given ∷ (kinds T ++ left) = sym s ∙ h in cc
+        let wrong : Two ∷ map row_kind rest ≡ Given ∷ (kinds T ++ left) = sym s ∙ h in cc
 
 pub easy-given : (rows rest end : List Row) (old new : List Bool) → StartsWith rows Given rest
     → AreAllEasy rest old new end → AreAllEasy rows old new end
@@ -91,9 +91,9 @@ easy-given rows rest end old new s inner = go
   where
     go : AreAllEasy rows old new end
     go (Goal i w A) left h =
-        let wrong : Given ∷ map kind_of rest ≡ Alone ∷ left = sym s ∙ h in cc
+        let wrong : Given ∷ map row_kind rest ≡ Alone ∷ left = sym s ∙ h in cc
     go (Both S T) left h =
-        let wrong : Given ∷ map kind_of rest ≡ Two ∷ ((kinds S ++ kinds T) ++ left) = sym s ∙ h in
+        let wrong : Given ∷ map row_kind rest ≡ Two ∷ ((kinds S ++ kinds T) ++ left) = sym s ∙ h in
         cc
     go (Under i taken A T) left h = inner T left (behind (sym s ∙ h))
 
@@ -101,7 +101,7 @@ easy-given rows rest end old new s inner = go
 
 pub marks-easy : (counted : Bool) (out : ℕ) (Γ : Hyps) (here : Form → Form) (T : Goals)
     → is_easy counted out Γ (here (asked T)) ≡ true
-    → marks counted out Γ here T ≡ replicate (count_of T) true
+    → marks counted out Γ here T ≡ replicate (count_of_goals T) true
 marks-easy counted out Γ here (Goal i w A) e = ap (λ z. z ∷ []) e
 marks-easy counted out Γ here (Both S T) e =
     ap (λ z. all_or z (Both S T) (marks counted out Γ here S ++ marks counted out Γ here T)) e
@@ -147,11 +147,11 @@ module _ (counted : Bool) (t : TableView) (hyps : List Hypothesis) (out goal : �
           others = behind (sym s ∙ g.rows_are);
         }
         go Γ here (Both S T) left g e =
-            let wrong : Alone ∷ map kind_of rest ≡ Two ∷ ((kinds S ++ kinds T) ++ left) =
+            let wrong : Alone ∷ map row_kind rest ≡ Two ∷ ((kinds S ++ kinds T) ++ left) =
             sym s ∙ g.rows_are in
             cc
         go Γ here (Under i taken A T) left g e =
-            let wrong : Alone ∷ map kind_of rest ≡ Given ∷ (kinds T ++ left) =
+            let wrong : Alone ∷ map row_kind rest ≡ Given ∷ (kinds T ++ left) =
             sym s ∙ g.rows_are in
             cc
 
@@ -162,20 +162,20 @@ module _ (counted : Bool) (t : TableView) (hyps : List Hypothesis) (out goal : �
       where
         go : ArePartsMarked counted t hyps out goal rows old new end
         go Γ here (Goal i w A) left g e =
-            let wrong : Two ∷ map kind_of rest ≡ Alone ∷ left = sym s ∙ g.rows_are in cc
+            let wrong : Two ∷ map row_kind rest ≡ Alone ∷ left = sym s ∙ g.rows_are in cc
         go Γ here (Both S T) left g e =
             let p = both Γ here S T left (record {
               writing = g.writing;
               hyps_are = g.hyps_are;
               goal_is = g.goal_is;
-              rows_are = left_of_two S T (map kind_of rest) left (behind (sym s ∙ g.rows_are));
+              rows_are = left_of_two S T (map row_kind rest) left (behind (sym s ∙ g.rows_are));
             }) in
             record {
               marks = p.marks ∙ ap (λ z. old ++ z) (sym (marks-both counted out Γ here S T e));
               others = p.others;
             }
         go Γ here (Under i taken A T) left g e =
-            let wrong : Two ∷ map kind_of rest ≡ Given ∷ (kinds T ++ left) =
+            let wrong : Two ∷ map row_kind rest ≡ Given ∷ (kinds T ++ left) =
             sym s ∙ g.rows_are in
             cc
 
@@ -186,9 +186,9 @@ module _ (counted : Bool) (t : TableView) (hyps : List Hypothesis) (out goal : �
       where
         go : ArePartsMarked counted t hyps out goal rows old new end
         go Γ here (Goal i w A) left g e =
-            let wrong : Given ∷ map kind_of rest ≡ Alone ∷ left = sym s ∙ g.rows_are in cc
+            let wrong : Given ∷ map row_kind rest ≡ Alone ∷ left = sym s ∙ g.rows_are in cc
         go Γ here (Both S T) left g e =
-            let wrong : Given ∷ map kind_of rest ≡ Two ∷ ((kinds S ++ kinds T) ++ left) =
+            let wrong : Given ∷ map row_kind rest ≡ Two ∷ ((kinds S ++ kinds T) ++ left) =
             sym s ∙ g.rows_are in
             cc
         go Γ here (Under i taken A T) left g e =

@@ -13,8 +13,8 @@ use Rattle.prover_class.specs.Goals.{Prover, absurdity, by_shape}
 use Rattle.prover_class.specs.Access.{by_all_means}
 use Rattle.prover_class.specs.Parts.{part_proof, refused_at, first_not_easy}
 use Rattle.prover_goals.specs.Provers.{whole_proof}
-use Rattle.view_goals.specs.Goals.{Goals, Goal, Both, Under, Part, asked}
-use Rattle.view_marks.specs.Marks.{is_easy, count_of, all_or, assuming, marks, part_form, part_marks, all_true, first_unmarked}
+use Rattle.view_goals.specs.Goals.{Goals, Goal, Both, Under, PartGoals, asked}
+use Rattle.view_marks.specs.Marks.{is_easy, count_of_goals, all_or, assuming, marks, part_form, part_marks, all_true, first_unmarked}
 use Rattle.view_marks.specs.Inside.Marking.{IsWriting}
 
 -- ---- options
@@ -46,7 +46,7 @@ and_true false = refl
 -- where goals aren't easy as a whole, some mark is false
 either : (easy : Bool) (T : Goals) (marked : List Bool) → (easy ≡ false → all_true marked ≡ false)
     → all_true (all_or easy T marked) ≡ easy
-either true T marked h = all-true (count_of T)
+either true T marked h = all-true (count_of_goals T)
 either false T marked h = h refl
 
 -- how a formula is written by the machine's names, and under one more binder
@@ -62,16 +62,16 @@ writes-raised here w = record {
 
 -- one mark a goal
 pub marks-length : (counted : Bool) (out : ℕ) (Γ : Hyps) (here : Form → Form) (T : Goals)
-    → length (marks counted out Γ here T) ≡ count_of T
+    → length (marks counted out Γ here T) ≡ count_of_goals T
 marks-length counted out Γ here T = go out Γ here T
   where
-    each : (easy : Bool) (T : Goals) (marked : List Bool) → length marked ≡ count_of T
-        → length (all_or easy T marked) ≡ count_of T
-    each true T marked h = length-replicate (count_of T) true
+    each : (easy : Bool) (T : Goals) (marked : List Bool) → length marked ≡ count_of_goals T
+        → length (all_or easy T marked) ≡ count_of_goals T
+    each true T marked h = length-replicate (count_of_goals T) true
     each false T marked h = h
 
     go : (out : ℕ) (Γ : Hyps) (here : Form → Form) (T : Goals)
-        → length (marks counted out Γ here T) ≡ count_of T
+        → length (marks counted out Γ here T) ≡ count_of_goals T
     go out Γ here (Goal i w A) = refl
     go out Γ here (Both S T) =
         let first = marks counted out Γ here S in
@@ -183,7 +183,7 @@ module _
         (sym (ap (is_easy counted out Γ) (w.under A (asked T))) ∙ none))
 
     -- a part is easy exactly where all its marks are true
-    pub part-marked : (bound : Option ℕ) (p : Part)
+    pub part-marked : (bound : Option ℕ) (p : PartGoals)
         → is_some (part_proof (is_some bound) (part_form bound p))
         ≡ all_true (part_marks (is_some bound) p)
     part-marked bound p =
@@ -192,7 +192,7 @@ module _
         (Under p.at true p.known p.goals))
 
     -- so the first that isn't easy is the first with a mark that is false
-    pub first-marked : (bound : Option ℕ) (n : ℕ) (parts : List Part)
+    pub first-marked : (bound : Option ℕ) (n : ℕ) (parts : List PartGoals)
         → first_not_easy (is_some bound) n (map (part_form bound) parts)
         ≡ first_unmarked n (map (part_marks (is_some bound)) parts)
     first-marked bound n [] = refl

@@ -34,8 +34,8 @@ pub data HintView : Type 0 where
   Rights : List Form → HintView
 
 -- the address as a sum: its normal form in a part
-abbrev pub sum_of : Exp → Exp
-sum_of a = (normal_form PART_BINDERS a).now
+abbrev pub address_sum : Exp → Exp
+address_sum a = (normal_form PART_BINDERS a).now
 
 -- whether what is left of a sum is a literal
 abbrev pub is_literal : Option Exp → Bool
@@ -44,11 +44,12 @@ is_literal _ = false
 
 -- whether z has the summands of a, and perhaps another literal
 abbrev pub has_summands : Exp → Exp → Bool
-has_summands a z = is_literal (rest_of (sum_of a) (sum_of z))
+has_summands a z = is_literal (rest_of (address_sum a) (address_sum z))
 
 -- whether z's summands, where 0 is put for variable 0, are among those of a
 abbrev pub has_instance : Exp → Exp → Bool
-has_instance a z = is_some (rest_of (sum_of a) (sum_of (subst_var_exp z 0 (PExp (ELit 0)))))
+has_instance a z =
+    is_some (rest_of (address_sum a) (address_sum (subst_var_exp z 0 (PExp (ELit 0)))))
 
 -- whether the test holds of the address, where there is one
 abbrev pub holds_at : (Exp → Bool) → Option Exp → Bool

@@ -8,7 +8,7 @@ use Rattle.vcgen.specs.Conditions.{close}
 use Rattle.prover_class.specs.Hypotheses.{Hyps, raised_hyps, split_hyps, with_new}
 use Rattle.prover_class.specs.Access.{by_all_means}
 use Rattle.prover_goals.specs.Provers.{whole_proof}
-use Rattle.view_goals.specs.Goals.{Goals, Goal, Both, Under, Part, asked}
+use Rattle.view_goals.specs.Goals.{Goals, Goal, Both, Under, PartGoals, asked}
 use Rattle.view_marks.specs.declared.marking.TheConstants.{PART_BINDERS}
 
 -- whether the class proves the formula under hypotheses, where so many binders stand outside
@@ -16,14 +16,14 @@ unfoldable pub is_easy : Bool → ℕ → Hyps → Form → Bool
 is_easy counted out Γ A = is_some (whole_proof (by_all_means counted) out Γ A)
 
 -- how many goals they are
-abbrev pub count_of : Goals → ℕ
-count_of (Goal i why A) = 1
-count_of (Both S T) = count_of S + count_of T
-count_of (Under i taken A T) = count_of T
+abbrev pub count_of_goals : Goals → ℕ
+count_of_goals (Goal i why A) = 1
+count_of_goals (Both S T) = count_of_goals S + count_of_goals T
+count_of_goals (Under i taken A T) = count_of_goals T
 
 -- all goals are easy where they are as a whole, else those that are marked
 abbrev pub all_or : Bool → Goals → List Bool → List Bool
-all_or true T marked = replicate (count_of T) true
+all_or true T marked = replicate (count_of_goals T) true
 all_or false T marked = marked
 
 -- the hypotheses with one more, which the nearest binder's variable proves
@@ -43,11 +43,11 @@ marks counted out Γ here (Under i taken A T) =
     (marks counted (suc out) (assuming Γ (here A)) (λ F. shift_form 1 0 (here F)) T)
 
 -- the part as a formula: what is known leads to what is asked, whatever the machine's state is
-abbrev pub part_form : Option ℕ → Part → Form
+abbrev pub part_form : Option ℕ → PartGoals → Form
 part_form bound p = close bound (FImp p.known (asked p.goals))
 
 -- the marks of a part's goals: under its quantifiers, by what is known where it begins
-abbrev pub part_marks : Bool → Part → List Bool
+abbrev pub part_marks : Bool → PartGoals → List Bool
 part_marks counted p =
     marks counted PART_BINDERS [] (λ F. subst_form F machine_names)
     (Under p.at true p.known p.goals)

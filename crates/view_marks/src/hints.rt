@@ -16,10 +16,11 @@ ghost use Rattle.prover_ids.specs.Hypotheses.{AreKnownHyps, AreHyps};
 ghost use Rattle.prover_class.specs.Hypotheses.{Hyps, split_hyps, with_new};
 ghost use Rattle.prover_class.specs.Bounds.{upper_bound, lower_bound};
 ghost use Rattle.prover_goals.specs.Search.{IsSearch, IsContext, IsAfter};
+ghost use Rattle.prover_conditions.specs.Inside.AccessIds.{access_of};
 ghost use Rattle.view_marks.specs.declared.marking.TheConstants.{PART_BINDERS};
 ghost use Rattle.view_marks.specs.Hints.{known_hyps, missing_part, Bounds, hint_of};
 ghost use Rattle.view_marks.specs.Answers.{IsHint, IsKnownHint, IsMissing, IsKnownMissing};
-ghost use Rattle.view_marks.specs.Inside.Nearness.{access_of, access_at};
+ghost use Rattle.view_marks.specs.Inside.Nearness.{access_at};
 
 use crate::PART_BINDERS;
 use crate::nearness::near;

@@ -8,7 +8,7 @@ ghost use Rattle.term_table.specs.Table.{IsKnown, tree_at, Extends};
 ghost use Rattle.formula_tree.specs.Formulas.{Form};
 ghost use Rattle.lf_terms.specs.Encoding.{form_encoding};
 ghost use Rattle.prover_goals.specs.Search.{IsSearch, IsContext, IsAfter};
-ghost use Rattle.view_goals.specs.Goals.{Part};
+ghost use Rattle.view_goals.specs.Goals.{PartGoals};
 ghost use Rattle.view_goals.specs.Rows.{part_view, shown_part};
 ghost use Rattle.view_marks.specs.Marks.{part_form, part_marks};
 ghost use Rattle.view_marks.specs.Inside.Marking.{AreAllEasy, AreMarked, ArePartsMarked};
@@ -233,7 +233,7 @@ pub fn marks_of(
 ) -> Result<Vec<bool>, Exhausted>
     requires part { IsKnown table.old part.now.formula }
     requires search { IsSearch table.old search.old }
-    ensures exact { (bound : Option ℕ) (p : Part)
+    ensures exact { (bound : Option ℕ) (p : PartGoals)
         → part_view table.old part.now ≡ shown_part bound (part_form bound p) p
         → IfOk result (λ v. v.items ≡ part_marks counted p) }
     ensures extends { Extends table.old table.new }

@@ -11,7 +11,7 @@ ghost use Rattle.prover_ids.specs.Puts.{IsExpPut};
 ghost use Rattle.prover_class.specs.Access.{rest_of};
 ghost use Rattle.prover_sums.specs.Sums.{IsExpOption};
 ghost use Rattle.prover_goals.specs.Search.{IsSearch};
-ghost use Rattle.view_marks.specs.Hints.{sum_of, has_summands, has_instance};
+ghost use Rattle.view_marks.specs.Hints.{address_sum, has_summands, has_instance};
 ghost use Rattle.view_marks.specs.Inside.Nearness.{is_like};
 
 use crate::PART_BINDERS;
@@ -31,7 +31,7 @@ fn sum_rest(table: &mut Table, search: &mut Search, a: Id, z: Id) -> Result<Opti
     ensures known { IfOk result (λ o. IfSome o (IsKnown table.new)) }
     ensures exact { (x y : Exp) → tree_at table.old a ≡ exp_encoding x
         → tree_at table.old z ≡ exp_encoding y
-        → IfOk result (IsExpOption table.new (rest_of (sum_of x) (sum_of y))) }
+        → IfOk result (IsExpOption table.new (rest_of (address_sum x) (address_sum y))) }
     ensures extends { Extends table.old table.new }
     ensures search { OnOk result (IsSearch table.new search.new) }
 {

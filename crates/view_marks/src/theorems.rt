@@ -3,9 +3,9 @@
 ghost use Rattle.std.specs.Prelude.{◌≡◌, ℕ, Bool, List, Option, map, length, is_some, ◌≤◌, ◌<◌};
 ghost use Rattle.std.specs.Prelude.{false};
 ghost use Rattle.prover_class.specs.Parts.{part_proof, first_not_easy};
-ghost use Rattle.view_goals.specs.Goals.{Part};
-ghost use Rattle.view_marks.specs.Marks.{part_form, part_marks, count_of, all_true, first_unmarked};
-ghost use Rattle.view_marks.specs.Marks.{is_easy};
+ghost use Rattle.view_goals.specs.Goals.{PartGoals};
+ghost use Rattle.view_marks.specs.Marks.{part_form, part_marks, count_of_goals, all_true};
+ghost use Rattle.view_marks.specs.Marks.{first_unmarked, is_easy};
 ghost use Rattle.word_ops.specs.declared.Rel.TheVariants.{Ult, Ule};
 ghost use Rattle.formula_tree.specs.Formulas.{Exp, Form, FRel};
 ghost use Rattle.prover_class.specs.Hypotheses.{Hyps};
@@ -19,13 +19,13 @@ use prover_goals::round_laws;
 /// goals is marked as easy (`part`), so the first part that isn't easy is the first part with a
 /// goal that isn't marked (`first`). There is one mark for each goal (`length`).
 pub fn mark_laws()
-    ensures part { (bound : Option ℕ) (p : Part) → let counted = is_some bound in
+    ensures part { (bound : Option ℕ) (p : PartGoals) → let counted = is_some bound in
         is_some (part_proof counted (part_form bound p)) ≡ all_true (part_marks counted p) }
-    ensures first { (bound : Option ℕ) (n : ℕ) (parts : List Part) → let counted = is_some bound in
-        first_not_easy counted n (map (part_form bound) parts)
+    ensures first { (bound : Option ℕ) (n : ℕ) (parts : List PartGoals) →
+        let counted = is_some bound in first_not_easy counted n (map (part_form bound) parts)
         ≡ first_unmarked n (map (part_marks counted) parts) }
-    ensures length { (counted : Bool) (p : Part)
-        → length (part_marks counted p) ≡ count_of p.goals }
+    ensures length { (counted : Bool) (p : PartGoals)
+        → length (part_marks counted p) ≡ count_of_goals p.goals }
 {
     round_laws();
 }

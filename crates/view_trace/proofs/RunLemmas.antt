@@ -14,9 +14,9 @@ use Rattle.file_port.specs.Sink.{SinkState, PutFails, with_piece}
 use Rattle.file_port.proofs.PutLemmas.{part_fails, rest_fails, with_piece-with_piece, with_piece-nil}
 use Rattle.asm_print.specs.Printing.{insn_text}
 use Rattle.view_trace.specs.declared.accesses.Access.{Access}
-use Rattle.view_trace.specs.Accesses.{access_of, access_text}
+use Rattle.view_trace.specs.Accesses.{action_access, access_text}
 use Rattle.view_trace.specs.Changes.{change_text}
-use Rattle.view_trace.specs.Traces.{line_at, step_text, trace_text, where_moved}
+use Rattle.view_trace.specs.Traces.{trace_line_at, step_text, trace_text, where_moved}
 use Rattle.view_trace.specs.Inside.Written.{register_written, word_change}
 use Rattle.view_trace.specs.Inside.Ends.{PrintsRun}
 use Rattle.view_trace.proofs.ChangeLemmas.{changed}
@@ -30,19 +30,19 @@ change_of r old new = word_change r (read_reg old r) (read_reg new r)
 -- a line by what the code finds of the step
 step_line : (code : List Insn) (s : State) (insn : Insn) (step : Step) (u : State) → slice_get code s.index ≡ Some insn
     → (step, u) ≡ step_of code s → step_text code s
-    ≡ decimal s.index ++ codes " " ++ insn_text s.index insn ++ access_text (access_of s.regs (action_of insn)) step
+    ≡ decimal s.index ++ codes " " ++ insn_text s.index insn ++ access_text (action_access s.regs (action_of insn)) step
     ++ change_of (register_written (action_of insn)) s.regs u.regs ++ codes "\n"
 unfolding step_text
 step_line code s insn step u at ended =
     let action : Action = action_of insn in
     let r : ℕ = register_written action in
-    let front : List ℕ = decimal s.index ++ codes " " ++ insn_text s.index insn ++ access_text (access_of s.regs action) step in
+    let front : List ℕ = decimal s.index ++ codes " " ++ insn_text s.index insn ++ access_text (action_access s.regs action) step in
     let made : step_of code s ≡ (step, u) = sym ended in
     let by_insn : step_of code s ≡ step_at (Some insn) s = ap (λ (o : Option Insn). step_at o s) at in
     let is : change_text 0 s.regs u.regs ≡ change_of r s.regs u.regs =
     subst (λ (x : Step × State). change_text 0 s.regs x.1.regs ≡ change_of r s.regs x.1.regs)
     (sym by_insn ∙ made) (changed action (jump_of s.index insn) s) in
-    ap (λ (o : Option Insn). line_at o s (step_of code s)) at ∙ ap (λ (x : Step × State). line_at (Some insn) s x) made
+    ap (λ (o : Option Insn). trace_line_at o s (step_of code s)) at ∙ ap (λ (x : Step × State). trace_line_at (Some insn) s x) made
     ∙ ap (λ x. front ++ x ++ codes "\n") is
 
 regroup : (a b c d e : List ℕ) → (((a ++ b) ++ c) ++ d) ++ e ≡ a ++ (((b ++ c) ++ d) ++ e)
@@ -52,7 +52,7 @@ regroup a b c d e = simp append_assoc
 pub line_made : (code : List Insn) (s : State) (insn : Insn) (step : Step) (u : State) (index : ℕ) → index ≡ s.index
     → slice_get code index ≡ Some insn → (step, u) ≡ step_of code s
     → (old one two three four text : List ℕ) (reg before after : ℕ) (access : Access)
-    → text ≡ insn_text index insn → access ≡ access_of s.regs (action_of insn)
+    → text ≡ insn_text index insn → access ≡ action_access s.regs (action_of insn)
     → reg ≡ register_written (action_of insn) → before ≡ read_reg s.regs reg → after ≡ read_reg u.regs reg
     → one ≡ old ++ (decimal index ++ codes " " ++ text) → two ≡ one ++ access_text access step
     → three ≡ two ++ word_change reg before after → four ≡ three ++ codes "\n" → four ≡ old ++ step_text code s
@@ -60,7 +60,7 @@ line_made code s insn step u index e_index at ended old one two three four text 
     e_reg e_before e_after e_one e_two e_three e_four =
     let here : slice_get code s.index ≡ Some insn = subst (λ i. slice_get code i ≡ Some insn) e_index at in
     let F : List ℕ = decimal s.index ++ codes " " ++ insn_text s.index insn in
-    let A : List ℕ = access_text (access_of s.regs (action_of insn)) step in
+    let A : List ℕ = access_text (action_access s.regs (action_of insn)) step in
     let C : List ℕ = change_of (register_written (action_of insn)) s.regs u.regs in
     let end : List ℕ = codes "\n" in
     let at_front : decimal index ++ codes " " ++ text ≡ F =

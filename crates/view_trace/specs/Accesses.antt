@@ -11,11 +11,11 @@ use Rattle.view_trace.specs.declared.accesses.Access.{Access}
 use Rattle.view_trace.specs.declared.accesses.Access.TheVariants.{Nothing, Loads, Stores}
 
 -- what an action asks: nothing, the word at an address, or that a word stands at one
-abbrev pub access_of : List ℕ → Action → Access
-access_of regs (actions.Load to base disp) = Loads (address_of regs base disp)
-access_of regs (actions.LoadAround to base disp) = Loads (aligned (address_of regs base disp))
-access_of regs (actions.Store from base disp) = Stores (address_of regs base disp) (read_reg regs from)
-access_of regs action = Nothing
+abbrev pub action_access : List ℕ → Action → Access
+action_access regs (actions.Load to base disp) = Loads (address_of regs base disp)
+action_access regs (actions.LoadAround to base disp) = Loads (aligned (address_of regs base disp))
+action_access regs (actions.Store from base disp) = Stores (address_of regs base disp) (read_reg regs from)
+action_access regs action = Nothing
 
 -- the kind and the address, blocked or not, and behind them the word of a store that is made
 abbrev pub access_text : Access → Step → List ℕ

@@ -12,25 +12,25 @@ use Rattle.reference_machine.specs.Starts.{StartView, start_state}
 use Rattle.packet_store.specs.PolicyStarts.{start_of}
 use Rattle.packet_store.specs.Results.{packet_result}
 use Rattle.pcc_lines.specs.Results.{result_line}
-use Rattle.view_trace.specs.Accesses.{access_of, access_text}
+use Rattle.view_trace.specs.Accesses.{action_access, access_text}
 use Rattle.view_trace.specs.Changes.{change_text}
 
 -- The line of a step by its instruction, the state before it, and what it answers and leaves: the index, the instruction,
 -- what it accesses, and the register that changes.
-abbrev pub insn_line : Insn → State → Step × State → List ℕ
-insn_line insn s end =
+abbrev pub trace_line : Insn → State → Step × State → List ℕ
+trace_line insn s end =
     decimal s.index ++ codes " " ++ insn_text s.index insn
-    ++ access_text (access_of s.regs (action_of insn)) end.0
+    ++ access_text (action_access s.regs (action_of insn)) end.0
     ++ change_text 0 s.regs end.1.regs ++ codes "\n"
 
 -- outside the code no line is printed
-abbrev pub line_at : Option Insn → State → Step × State → List ℕ
-line_at None s end = []
-line_at (Some insn) s end = insn_line insn s end
+abbrev pub trace_line_at : Option Insn → State → Step × State → List ℕ
+trace_line_at None s end = []
+trace_line_at (Some insn) s end = trace_line insn s end
 
 -- the line of the step of the code from a state
 unfoldable pub step_text : List Insn → State → List ℕ
-step_text code s = line_at (slice_get code s.index) s (step_of code s)
+step_text code s = trace_line_at (slice_get code s.index) s (step_of code s)
 
 -- the text behind a step's line: what follows, where the machine moved
 abbrev pub where_moved : Step → List ℕ → List ℕ

@@ -3,7 +3,7 @@
 ghost use Rattle.std.specs.Prelude.{◌≡◌, ◌+◌, ◌≤◌, ◌++◌};
 ghost use Rattle.arrayvec.specs.ArrayVec.{array_vec_len};
 ghost use Rattle.alpha_cfg.specs.Actions.{action_of};
-ghost use Rattle.view_trace.specs.Accesses.{access_of, access_text};
+ghost use Rattle.view_trace.specs.Accesses.{action_access, access_text};
 
 use alpha_cfg::Step;
 use alpha_words::Insn;
@@ -26,7 +26,7 @@ pub enum Access {
 
 /// Returns the access that an instruction asks for in the state of the agent.
 pub fn access_of(agent: &Agent, insn: &Insn) -> Access
-    ensures { result ≡ access_of agent.now.state.regs (action_of insn.now) }
+    ensures { result ≡ action_access agent.now.state.regs (action_of insn.now) }
 {
     match *insn {
         Insn::Ldq { rb, disp, .. } => Access::Loads(agent.address(rb, disp)),

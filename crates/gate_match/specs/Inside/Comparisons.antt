@@ -10,7 +10,7 @@ use Rattle.vcgen.specs.declared.symbols.Symbols.{Symbols}
 use Rattle.vcgen.specs.declared.walk.Program.{Program}
 use Rattle.gate_match.specs.declared.comparisons.Comparisons.{Comparisons}
 use Rattle.gate_match.specs.Inside.Uses.{AreUses}
-use Rattle.vcgen.specs.Symbols.{ids_of, IsProgram}
+use Rattle.vcgen.specs.Symbols.{ids_of, IsKnownProgram}
 
 -- results of the terms that ids stand for, and of earlier ones, are right
 pub record AreComparisons (t : TableView) (machine : MachineIds) (c : Comparisons) : Type 0 where
@@ -21,7 +21,7 @@ pub record AreComparisons (t : TableView) (machine : MachineIds) (c : Comparison
 
 -- a program, ids for the machine's variables, and what comparisons with their terms kept, are right of the table
 pub record IsComparing (t : TableView) (insns : List Insn) (ids : List (ℕ × ℕ)) (at_end : ℕ) (machine : MachineIds) (memo : Memo) (c : Comparisons) : Type 0 where
-  pub program : IsProgram t insns ids at_end
+  pub program : IsKnownProgram t insns ids at_end
   pub ready : AreMachineTerms t machine
   pub shifts : IsMemo t memo
   pub kept : AreComparisons t machine c

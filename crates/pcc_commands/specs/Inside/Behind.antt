@@ -28,12 +28,12 @@ abbrev pub check_under : List ℕ → PolicyView → Stage Effect
 check_under file under = accepted_of under file >>= λ accepted. printing accepted_line
 
 -- an agent of code with a packet
-abbrev pub member_with : PolicyView → List Insn → List ℕ → Member
-member_with policy code packet = record { policy = policy; code = code; packet = packet }
+abbrev pub member_on_packet : PolicyView → List Insn → List ℕ → Member
+member_on_packet policy code packet = record { policy = policy; code = code; packet = packet }
 
 -- what a load goes on with behind its code
 abbrev pub load_behind : ℕ → LoadView → PolicyView → List Insn → Stage Member
-load_behind a one policy code = for_agent a (packet_of a policy one.packets) >>= λ packet. gives (member_with policy code packet)
+load_behind a one policy code = for_agent a (packet_of a policy one.packets) >>= λ packet. gives (member_on_packet policy code packet)
 
 -- and behind its policy
 abbrev pub load_under : ℕ → LoadView → PolicyView → Stage Member

@@ -9,14 +9,14 @@ use Rattle.pcc_stages.specs.Stage.{Stage, stops, gives, ◌>>=◌}
 use Rattle.pcc_stages.specs.Stages.Common.{refused}
 use Rattle.pcc_stages.specs.Stages.Containers.{container_in, code_in, container_bytes_of}
 
--- a container that isn't refused
-abbrev pub unless_refused : Option Refusal → Stage (Unit {0})
-unless_refused None = gives tt
-unless_refused (Some refusal) = stops (refused (refusal_line refusal))
+-- a refusal ends the command with its line
+abbrev pub stops_if_refused : Option Refusal → Stage (Unit {0})
+stops_if_refused None = gives tt
+stops_if_refused (Some refusal) = stops (refused (refusal_line refusal))
 
 -- that the bytes are accepted under the policy, or the first clause that fails
 unfoldable pub accepted_in : PolicyView → List ℕ → Stage (Unit {0})
-accepted_in policy bytes = unless_refused (first_refusal policy bytes)
+accepted_in policy bytes = stops_if_refused (first_refusal policy bytes)
 
 -- the code of the container that the bytes are, where it is accepted under the policy
 unfoldable pub accepted_code_in : PolicyView → List ℕ → Stage (List Insn)

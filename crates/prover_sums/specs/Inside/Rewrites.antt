@@ -82,12 +82,12 @@ ungrouped_of x y z =
     whole_of (EOp Add x (EOp Add y z)) (EOp Add (EOp Add x y) z) (swap (EOp Add (EOp Add x y) z) (EOp Add x (EOp Add y z)) (word_rule ADD_ASSOC (x ∷ y ∷ z ∷ []) []))
 
 -- a rewriting in the left part
-abbrev pub left_of : Op → Exp → Rewriting → Rewriting
-left_of o y s = rewriting (EOp o s.into (up y)) s.from s.to s.proof
+abbrev pub left_rewriting : Op → Exp → Rewriting → Rewriting
+left_rewriting o y s = rewriting (EOp o s.into (up y)) s.from s.to s.proof
 
 -- a rewriting in the right part
-abbrev pub right_of : Op → Exp → Rewriting → Rewriting
-right_of o y s = rewriting (EOp o (up y) s.into) s.from s.to s.proof
+abbrev pub right_rewriting : Op → Exp → Rewriting → Rewriting
+right_rewriting o y s = rewriting (EOp o (up y) s.into) s.from s.to s.proof
 
 -- whether there is something to rewrite
 abbrev pub has_rewrites : Rewrites → Bool

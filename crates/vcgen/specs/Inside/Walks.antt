@@ -11,7 +11,7 @@ use Rattle.lf_encode.specs.declared.puts.PutMemo.{PutMemo}
 use Rattle.lf_encode.specs.Kept.{IsPutMemo, AreMachineTerms}
 use Rattle.vcgen.specs.declared.symbols.Symbols.{Symbols}
 use Rattle.vcgen.specs.declared.walk.Program.{Program}
-use Rattle.vcgen.specs.Symbols.{ids_of, IsProgram}
+use Rattle.vcgen.specs.Symbols.{ids_of, IsKnownProgram}
 
 -- the id stands for the term, which can be shifted over so many binders as a formula may have
 pub record IsTermFor (t : TableView) (tree : Tree) (id : ℕ) : Type 0 where
@@ -20,7 +20,7 @@ pub record IsTermFor (t : TableView) (tree : Tree) (id : ℕ) : Type 0 where
 
 -- a program, ids for the machine's variables, and what is kept of their terms, are right of the table
 pub record IsWalking (t : TableView) (insns : List Insn) (ids : List (ℕ × ℕ)) (at_end : ℕ) (machine : MachineIds) (memo : Memo) (puts : PutMemo) : Type 0 where
-  pub program : IsProgram t insns ids at_end
+  pub program : IsKnownProgram t insns ids at_end
   pub ready : AreMachineTerms t machine
   pub shifts : IsMemo t memo
   pub kept : IsPutMemo t machine puts

@@ -2,7 +2,7 @@
 use Rattle.std.specs.Prelude.{◌≡◌, ℕ, Bool, List, map, Option, is_some}
 use Rattle.term_table.specs.Table.{TableView}
 use Rattle.view_goals.specs.declared.rows.PartRows.{PartRows}
-use Rattle.view_goals.specs.Goals.{Part}
+use Rattle.view_goals.specs.Goals.{PartGoals}
 use Rattle.view_goals.specs.Rows.{part_view}
 use Rattle.view_marks.specs.Marks.{part_marks, all_true}
 use Rattle.view_goal_text.specs.declared.lines.ShownLine.{ShownLine}
@@ -14,7 +14,7 @@ use Rattle.view_goal_text.specs.Inside.Shown.{AreAdded}
 abbrev pub IsPartPrinted : Option ℕ → ℕ → TableView → TableView → PartRows → List ShownLine
     → List ShownLine → Bool → Type 0
 IsPartPrinted bound k t u part old new easy =
-    (p : Part) → part_view t part ≡ view_of bound p
+    (p : PartGoals) → part_view t part ≡ view_of bound p
     → AreAdded bound t u old
     (view_lines (is_some bound) k (view_of bound p) (part_marks (is_some bound) p)) new
     × (easy ≡ all_true (part_marks (is_some bound) p))
@@ -24,5 +24,5 @@ IsPartPrinted bound k t u part old new easy =
 abbrev pub ArePartsPrinted : Option ℕ → ℕ → TableView → TableView → List PartRows
     → List ShownLine → List ShownLine → Option ℕ → Type 0
 ArePartsPrinted bound k t u parts old new found =
-    (ps : List Part) → map (part_view t) parts ≡ map (view_of bound) ps
+    (ps : List PartGoals) → map (part_view t) parts ≡ map (view_of bound) ps
     → AreAdded bound t u old (parts_lines bound k ps) new × (found ≡ first_hard bound k ps)

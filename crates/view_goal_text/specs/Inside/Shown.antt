@@ -9,8 +9,8 @@ use Rattle.proof_container.specs.Postorder.{entries}
 use Rattle.view_entries.specs.Entries.{entry_name}
 use Rattle.view_goal_text.specs.declared.lines.ShownLine.{ShownLine}
 use Rattle.view_goal_text.specs.Formulas.{short_text, long_term}
-use Rattle.view_goal_text.specs.Lines.{Line}
-use Rattle.view_goal_text.specs.Texts.{ended, entries_text}
+use Rattle.view_goal_text.specs.Lines.{GoalLine}
+use Rattle.view_goal_text.specs.Texts.{with_lf, entries_text}
 
 -- a line: its text up to a term that has no short text, and that term
 pub record ShownView : Type 0 where
@@ -23,7 +23,7 @@ short_part bound None = []
 short_part bound (Some t) = unwrap_or (short_text bound t) []
 
 -- a line as it is kept
-abbrev pub shown_line : Option ℕ → Line → ShownView
+abbrev pub shown_line : Option ℕ → GoalLine → ShownView
 shown_line bound l =
     record { text = l.label ++ short_part bound l.term; long = long_term bound l.term }
 
@@ -40,7 +40,7 @@ abbrev pub AreKnownLines : TableView → List ShownLine → Type 0
 AreKnownLines t lines = AllByRecursion (HasKnownLong t) lines
 
 -- these lines were added behind the old ones, while the table grew
-abbrev pub AreAdded : Option ℕ → TableView → TableView → List ShownLine → List Line
+abbrev pub AreAdded : Option ℕ → TableView → TableView → List ShownLine → List GoalLine
     → List ShownLine → Type 0
 AreAdded bound t u old ls new =
     map (line_view u) new ≡ map (line_view t) old ++ map (shown_line bound) ls
@@ -54,7 +54,7 @@ name_part es (Some t) = entry_name (entry_number es t)
 
 -- a line, these being the entries
 abbrev pub shown_text : List Tree → ShownView → List ℕ
-shown_text es v = v.text ++ ended (name_part es v.long)
+shown_text es v = v.text ++ with_lf (name_part es v.long)
 
 -- the terms without a short text, in order
 abbrev pub shown_longs : List ShownView → List Tree

@@ -9,7 +9,7 @@ use Rattle.view_goals.specs.declared.rows.Why.{Why}
 use Rattle.view_goals.specs.declared.rows.Why.TheVariants as why
 use Rattle.view_goals.specs.Goals.{Goals, Goal, Both, Under}
 use Rattle.view_goals.specs.Rows.{RowView, GoalRow, BothRow, UnderRow}
-use Rattle.view_goals.specs.Inside.Reading.{left_of, right_of}
+use Rattle.view_goals.specs.Inside.Reading.{first_argument, last_argument}
 
 -- a goal, two that are both asked, or what is asked behind a branch
 pub data Outline : Type 0 where
@@ -68,5 +68,6 @@ outline_within code marks counted (suc n) from i =
 -- the rows of a tree that has this outline and stands under d branches
 abbrev pub rows_by : ℕ → Outline → Tree → List RowView
 rows_by d (One i w) t = GoalRow i w t d ∷ []
-rows_by d (Two S T) t = BothRow ∷ (rows_by d S (left_of t) ++ rows_by d T (right_of t))
-rows_by d (Behind i taken T) t = UnderRow i taken (left_of t) d ∷ rows_by (d + 1) T (right_of t)
+rows_by d (Two S T) t = BothRow ∷ (rows_by d S (first_argument t) ++ rows_by d T (last_argument t))
+rows_by d (Behind i taken T) t =
+    UnderRow i taken (first_argument t) d ∷ rows_by (d + 1) T (last_argument t)

@@ -5,18 +5,11 @@ use Rattle.formula_tree.specs.Formulas.{Exp, Form, FAnd, FAll}
 use Rattle.lf_terms.specs.Encoding.{exp_encoding, form_encoding}
 use Rattle.prover_ids.specs.Kept.{AreRight}
 use Rattle.prover_ids.specs.declared.kept.Kept.{Kept}
-use Rattle.prover_ids.specs.declared.forms.Access as ids
-use Rattle.prover_ids.specs.declared.forms.Access.TheVariants as A
 use Rattle.prover_class.specs.Access.{Access, Load, Store}
 use Rattle.view_marks.specs.Hints.{has_summands, has_instance, any_right, is_near}
 use Rattle.view_marks.specs.declared.reached.Asked.{Asked}
 use Rattle.view_marks.specs.declared.reached.Reach.{Reach}
 use Rattle.view_marks.specs.contracts.reached.ReachOrd.TheImpl as block
-
--- which access
-abbrev pub access_of : ids.Access → Access
-access_of A.Load = Load
-access_of A.Store = Store
 
 -- to store, or else to load
 abbrev pub access_at : Bool → Access

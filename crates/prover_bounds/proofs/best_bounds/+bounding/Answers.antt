@@ -8,7 +8,7 @@ use Rattle.prover_ids.proofs.Standing.{stands, more, twice}
 use Rattle.prover_class.specs.Bounds.{WordBound, upper_bound, lower_bound}
 use Rattle.prover_bounds.specs.declared.parts.How.{How}
 use Rattle.prover_bounds.specs.declared.parts.How.TheVariants.{AndLeft, AndRight, Cleared, ShiftRight, ShiftLeft, Sum, Difference}
-use Rattle.prover_bounds.specs.BoundIds.{IsBoundOf}
+use Rattle.prover_bounds.specs.BoundIds.{IsWordBound}
 use Rattle.prover_bounds.specs.Candidates.{by_parts, by_side, by_left, by_right_shift, by_left_shift, by_sum, by_difference}
 use Rattle.prover_bounds.proofs.BoundRows.{bound-more, bound_is, bounds-more, if_ok}
 use Rattle.prover_bounds.proofs.best_bounds.+bounding.Goals as goal
@@ -40,8 +40,8 @@ made_by_parts-returns-in_ok-w-in-Sum-clause-exact t c = λ Γ x g q.
     let sum = c.by_sum.ensures.is x p.left p.right (more e (twice e1 e2)).is (more left (twice e1 e2)).is (more right (twice e1 e2)).is in
     let is : by_sum x p.left p.right (upper_bound Γ p.left) (upper_bound Γ p.right) ≡ by_parts Γ x Sum =
     ap (λ (z : Exp). by_sum z p.left p.right (upper_bound Γ p.left) (upper_bound Γ p.right)) p.is ∙ sym (ap (λ (z : Exp). by_parts Γ z Sum) p.is) in
-    subst (λ (h : How). IfOk c.by_sum.result (IsBoundOf c.by_sum.new.table (by_parts Γ x h))) (sym c.in-Sum.is)
-    (subst (λ (b : WordBound). IfOk c.by_sum.result (IsBoundOf c.by_sum.new.table b)) ((λ i. by_sum x p.left p.right (bound_is v i) (bound_is w i)) ∙ is) sum)
+    subst (λ (h : How). IfOk c.by_sum.result (IsWordBound c.by_sum.new.table (by_parts Γ x h))) (sym c.in-Sum.is)
+    (subst (λ (b : WordBound). IfOk c.by_sum.result (IsWordBound c.by_sum.new.table b)) ((λ i. by_sum x p.left p.right (bound_is v i) (bound_is w i)) ∙ is) sum)
 
 pub made_by_parts-returns-in_ok-v-in-ShiftRight-clause-exact :
     goal.made_by_parts-returns-in_ok-v-in-ShiftRight-clause-exact
@@ -55,8 +55,8 @@ made_by_parts-returns-in_ok-v-in-ShiftRight-clause-exact t c = λ Γ x g q.
     let v = c.in_ok-v-in-ShiftRight.ensures.exact Γ p.left g p.left_is in
     let made = c.by_right_shift.ensures.is x p.left (more e e1).is (more left e1).is in
     let is : by_right_shift x p.left n (upper_bound Γ p.left) ≡ by_parts Γ x (ShiftRight n) = ap (λ (z : Exp). by_right_shift z p.left n (upper_bound Γ p.left)) p.is ∙ sym (ap (λ (z : Exp). by_parts Γ z (ShiftRight n)) p.is) in
-    subst (λ (h : How). IfOk c.by_right_shift.result (IsBoundOf c.by_right_shift.new.table (by_parts Γ x h))) (sym c.in-ShiftRight.is)
-    (subst (λ (b : WordBound). IfOk c.by_right_shift.result (IsBoundOf c.by_right_shift.new.table b)) (ap (by_right_shift x p.left n) (bound_is v) ∙ is) made)
+    subst (λ (h : How). IfOk c.by_right_shift.result (IsWordBound c.by_right_shift.new.table (by_parts Γ x h))) (sym c.in-ShiftRight.is)
+    (subst (λ (b : WordBound). IfOk c.by_right_shift.result (IsWordBound c.by_right_shift.new.table b)) (ap (by_right_shift x p.left n) (bound_is v) ∙ is) made)
 
 pub made_by_parts-returns-in_ok-v-in-ShiftLeft-clause-exact :
     goal.made_by_parts-returns-in_ok-v-in-ShiftLeft-clause-exact
@@ -70,8 +70,8 @@ made_by_parts-returns-in_ok-v-in-ShiftLeft-clause-exact t c = λ Γ x g q.
     let v = c.in_ok-v-in-ShiftLeft.ensures.exact Γ p.left g p.left_is in
     let made = c.by_left_shift.ensures.is x p.left (more e e1).is (more left e1).is in
     let is : by_left_shift x p.left n (upper_bound Γ p.left) ≡ by_parts Γ x (ShiftLeft n) = ap (λ (z : Exp). by_left_shift z p.left n (upper_bound Γ p.left)) p.is ∙ sym (ap (λ (z : Exp). by_parts Γ z (ShiftLeft n)) p.is) in
-    subst (λ (h : How). IfOk c.by_left_shift.result (IsBoundOf c.by_left_shift.new.table (by_parts Γ x h))) (sym c.in-ShiftLeft.is)
-    (subst (λ (b : WordBound). IfOk c.by_left_shift.result (IsBoundOf c.by_left_shift.new.table b)) (ap (by_left_shift x p.left n) (bound_is v) ∙ is) made)
+    subst (λ (h : How). IfOk c.by_left_shift.result (IsWordBound c.by_left_shift.new.table (by_parts Γ x h))) (sym c.in-ShiftLeft.is)
+    (subst (λ (b : WordBound). IfOk c.by_left_shift.result (IsWordBound c.by_left_shift.new.table b)) (ap (by_left_shift x p.left n) (bound_is v) ∙ is) made)
 
 pub made_by_parts-returns-in_ok-v-in-Difference-clause-exact :
     goal.made_by_parts-returns-in_ok-v-in-Difference-clause-exact
@@ -85,8 +85,8 @@ made_by_parts-returns-in_ok-v-in-Difference-clause-exact t c = λ Γ x g q.
     let v = c.in_ok-v-in-Difference.ensures.exact Γ p.left g p.left_is in
     let made = c.by_difference.ensures.is x p.left (more e e1).is (more left e1).is in
     let is : by_difference x p.left n (lower_bound true Γ p.left) ≡ by_parts Γ x (Difference n) = ap (λ (z : Exp). by_difference z p.left n (lower_bound true Γ p.left)) p.is ∙ sym (ap (λ (z : Exp). by_parts Γ z (Difference n)) p.is) in
-    subst (λ (h : How). IfOk c.by_difference.result (IsBoundOf c.by_difference.new.table (by_parts Γ x h))) (sym c.in-Difference.is)
-    (subst (λ (b : WordBound). IfOk c.by_difference.result (IsBoundOf c.by_difference.new.table b)) (ap (by_difference x p.left n) (bound_is v) ∙ is) made)
+    subst (λ (h : How). IfOk c.by_difference.result (IsWordBound c.by_difference.new.table (by_parts Γ x h))) (sym c.in-Difference.is)
+    (subst (λ (b : WordBound). IfOk c.by_difference.result (IsWordBound c.by_difference.new.table b)) (ap (by_difference x p.left n) (bound_is v) ∙ is) made)
 
 pub made_by_parts-returns-in_ok-v-in-AndLeft-clause-extends : goal.made_by_parts-returns-in_ok-v-in-AndLeft-clause-extends
 made_by_parts-returns-in_ok-v-in-AndLeft-clause-extends t c = twice c.in_ok-v-in-AndLeft.ensures.extends c.by_left.ensures.extends
@@ -150,8 +150,8 @@ made_by_parts-returns-in_ok-v-in-AndLeft-clause-exact t c = λ Γ x g q.
     let v = c.in_ok-v-in-AndLeft.ensures.exact Γ p.left g p.left_is in
     let made = c.by_left.ensures.is x p.left p.right (more e e1).is (more left e1).is (more right e1).is in
     let is : by_left x p.left p.right (upper_bound Γ p.left) ≡ by_parts Γ x AndLeft = ap (λ (z : Exp). by_left z p.left p.right (upper_bound Γ p.left)) p.is ∙ sym (ap (λ (z : Exp). by_parts Γ z AndLeft) p.is) in
-    subst (λ (h : How). IfOk c.by_left.result (IsBoundOf c.by_left.new.table (by_parts Γ x h))) (sym c.in-AndLeft.is)
-    (subst (λ (b : WordBound). IfOk c.by_left.result (IsBoundOf c.by_left.new.table b)) (ap (by_left x p.left p.right) (bound_is v) ∙ is) made)
+    subst (λ (h : How). IfOk c.by_left.result (IsWordBound c.by_left.new.table (by_parts Γ x h))) (sym c.in-AndLeft.is)
+    (subst (λ (b : WordBound). IfOk c.by_left.result (IsWordBound c.by_left.new.table b)) (ap (by_left x p.left p.right) (bound_is v) ∙ is) made)
 
 pub made_by_parts-returns-in_ok-w-in-AndRight-clause-exact : goal.made_by_parts-returns-in_ok-w-in-AndRight-clause-exact
 made_by_parts-returns-in_ok-w-in-AndRight-clause-exact t c = λ Γ x g q.
@@ -164,8 +164,8 @@ made_by_parts-returns-in_ok-w-in-AndRight-clause-exact t c = λ Γ x g q.
     let v = c.in_ok-w-in-AndRight.ensures.exact Γ p.right g p.right_is in
     let made = c.by_side.ensures.is x p.left p.right p.right (more e e1).is (more left e1).is (more right e1).is (more right e1).is in
     let is : by_side 54 x p.left p.right p.right (upper_bound Γ p.right) ≡ by_parts Γ x AndRight = ap (λ (z : Exp). by_side 54 z p.left p.right p.right (upper_bound Γ p.right)) p.is ∙ sym (ap (λ (z : Exp). by_parts Γ z AndRight) p.is) in
-    subst (λ (h : How). IfOk c.by_side.result (IsBoundOf c.by_side.new.table (by_parts Γ x h))) (sym c.in-AndRight.is)
-    (subst (λ (b : WordBound). IfOk c.by_side.result (IsBoundOf c.by_side.new.table b)) (ap (by_side 54 x p.left p.right p.right) (bound_is v) ∙ is) made)
+    subst (λ (h : How). IfOk c.by_side.result (IsWordBound c.by_side.new.table (by_parts Γ x h))) (sym c.in-AndRight.is)
+    (subst (λ (b : WordBound). IfOk c.by_side.result (IsWordBound c.by_side.new.table b)) (ap (by_side 54 x p.left p.right p.right) (bound_is v) ∙ is) made)
 
 pub made_by_parts-returns-in_ok-v-in-Cleared-clause-exact : goal.made_by_parts-returns-in_ok-v-in-Cleared-clause-exact
 made_by_parts-returns-in_ok-v-in-Cleared-clause-exact t c = λ Γ x g q.
@@ -178,5 +178,5 @@ made_by_parts-returns-in_ok-v-in-Cleared-clause-exact t c = λ Γ x g q.
     let v = c.in_ok-v-in-Cleared.ensures.exact Γ p.left g p.left_is in
     let made = c.by_side-in-Cleared.ensures.is x p.left p.right p.left (more e e1).is (more left e1).is (more right e1).is (more left e1).is in
     let is : by_side 97 x p.left p.right p.left (upper_bound Γ p.left) ≡ by_parts Γ x Cleared = ap (λ (z : Exp). by_side 97 z p.left p.right p.left (upper_bound Γ p.left)) p.is ∙ sym (ap (λ (z : Exp). by_parts Γ z Cleared) p.is) in
-    subst (λ (h : How). IfOk c.by_side-in-Cleared.result (IsBoundOf c.by_side-in-Cleared.new.table (by_parts Γ x h))) (sym c.in-Cleared.is)
-    (subst (λ (b : WordBound). IfOk c.by_side-in-Cleared.result (IsBoundOf c.by_side-in-Cleared.new.table b)) (ap (by_side 97 x p.left p.right p.left) (bound_is v) ∙ is) made)
+    subst (λ (h : How). IfOk c.by_side-in-Cleared.result (IsWordBound c.by_side-in-Cleared.new.table (by_parts Γ x h))) (sym c.in-Cleared.is)
+    (subst (λ (b : WordBound). IfOk c.by_side-in-Cleared.result (IsWordBound c.by_side-in-Cleared.new.table b)) (ap (by_side 97 x p.left p.right p.left) (bound_is v) ∙ is) made)

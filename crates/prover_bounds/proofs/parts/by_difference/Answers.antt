@@ -2,7 +2,7 @@ use Rattle.std.proofs.Common.{[], ◌∷◌, IfOk, subst}
 use Rattle.word_ops.specs.declared.Op.TheVariants.{Sub}
 use Rattle.lf_signature.specs.Nodes.{IsIdOf}
 use Rattle.lf_terms.specs.Encoding.{exp_encoding}
-use Rattle.prover_bounds.specs.BoundIds.{IsBoundOf}
+use Rattle.prover_bounds.specs.BoundIds.{IsWordBound}
 use Rattle.prover_bounds.specs.Candidates.{folded_at}
 use Rattle.prover_bounds.specs.declared.bounds.Side.TheVariants.{Lower}
 use Rattle.prover_ids.proofs.Standing.{own, stands, more, twice, ruled}
@@ -24,7 +24,7 @@ returns-clause-is c = λ z x qe qa.
     ∷ c.in_ok-taken.ensures.known.is i ∷ (more v x3).is i
     ∷ (more c.in_ok-held.ensures.id (twice e2 e3)).is i ∷ []) c.in_ok-proof.ensures.id in
     subst (λ u. IfOk c.folded.result
-    (IsBoundOf c.folded.new.table (folded_at Lower z Sub c.args.v.value c.args.w u))) p.is
+    (IsWordBound c.folded.new.table (folded_at Lower z Sub c.args.v.value c.args.w u))) p.is
     (c.folded.ensures.is z (more e (twice x3 c.in_ok-proof.ensures.extends)).is)
 
 pub returns-in_err-held-clause-memo : goal.returns-in_err-held-clause-memo

@@ -3,7 +3,7 @@ use Rattle.word_ops.specs.declared.Op.TheVariants.{Sll}
 use Rattle.lf_signature.specs.Nodes.{IsIdOf}
 use Rattle.lf_terms.specs.Encoding.{exp_encoding}
 use Rattle.prover_class.specs.Bounds.{folded}
-use Rattle.prover_bounds.specs.BoundIds.{IsBoundOf}
+use Rattle.prover_bounds.specs.BoundIds.{IsWordBound}
 use Rattle.prover_ids.proofs.Standing.{own, stands, more, twice, ruled}
 use Rattle.hereditary_subst.proofs.Rows.{known-more, memo-more}
 use Rattle.prover_bounds.proofs.parts.by_left_shift.Goals as goal
@@ -20,7 +20,7 @@ returns-clause-is c = λ z x qe qa.
     let p =
     ruled (λ u. IsIdOf c.rule_term.new.table u c.in_ok-proof.proof) 60
     (λ i. (more a x3).is i ∷ (more c.in_ok-value.ensures.known e3).is i ∷ c.in_ok-by.ensures.known.is i ∷ (more v x3).is i ∷ (more c.in_ok-fits.ensures.id (twice e2 e3)).is i ∷ []) c.in_ok-proof.ensures.id in
-    subst (λ u. IfOk c.folded.result (IsBoundOf c.folded.new.table (folded z Sll c.args.v.value c.args.count u))) p.is (c.folded.ensures.is z (more e (twice x3 c.in_ok-proof.ensures.extends)).is)
+    subst (λ u. IfOk c.folded.result (IsWordBound c.folded.new.table (folded z Sll c.args.v.value c.args.count u))) p.is (c.folded.ensures.is z (more e (twice x3 c.in_ok-proof.ensures.extends)).is)
 
 pub returns-in_err-value-clause-extends : goal.returns-in_err-value-clause-extends
 returns-in_err-value-clause-extends c = twice c.in_ok-fits.ensures.extends c.word.ensures.extends

@@ -3,7 +3,7 @@ use Rattle.word_ops.specs.declared.Op.TheVariants.{Srl}
 use Rattle.lf_signature.specs.Nodes.{IsIdOf}
 use Rattle.lf_terms.specs.Encoding.{exp_encoding}
 use Rattle.prover_class.specs.Bounds.{folded}
-use Rattle.prover_bounds.specs.BoundIds.{IsBoundOf}
+use Rattle.prover_bounds.specs.BoundIds.{IsWordBound}
 use Rattle.prover_ids.proofs.Standing.{own, stands, more, twice, ruled}
 use Rattle.hereditary_subst.proofs.Rows.{known-more, memo-more}
 use Rattle.prover_bounds.proofs.parts.by_right_shift.Goals as goal
@@ -19,7 +19,7 @@ returns-clause-is c = λ z x qe qa.
     let p =
     ruled (λ u. IsIdOf c.rule_term.new.table u c.in_ok-proof.proof) 59
     (λ i. (more a x2).is i ∷ (more c.in_ok-value.ensures.known e2).is i ∷ c.in_ok-by.ensures.known.is i ∷ (more v x2).is i ∷ []) c.in_ok-proof.ensures.id in
-    subst (λ u. IfOk c.folded.result (IsBoundOf c.folded.new.table (folded z Srl c.args.v.value c.args.count u))) p.is (c.folded.ensures.is z (more e (twice x2 c.in_ok-proof.ensures.extends)).is)
+    subst (λ u. IfOk c.folded.result (IsWordBound c.folded.new.table (folded z Srl c.args.v.value c.args.count u))) p.is (c.folded.ensures.is z (more e (twice x2 c.in_ok-proof.ensures.extends)).is)
 
 pub returns-in_err-value-clause-memo : goal.returns-in_err-value-clause-memo
 returns-in_err-value-clause-memo c = memo-more _ _ _ c.requires.memo c.word.ensures.extends

@@ -1,5 +1,5 @@
 use Rattle.std.proofs.Common.{◌∙◌, ap, arith}
-use Rattle.view_goal_text.specs.Inside.Nodes.{rest_of}
+use Rattle.view_goal_text.specs.Inside.Nodes.{rest_after_tree}
 use Rattle.view_goal_text.proofs.Nodes.{node-rest}
 use Rattle.view_goal_text.proofs.formulas.+counting.Goals as goal
 
@@ -7,4 +7,4 @@ pub rest_of-returns-clause-exact : goal.rest_of-returns-clause-exact
 rest_of-returns-clause-exact t c =
     c.rest_of_node.ensures.exact
     ∙ node-rest c.args.table.now c.args.budget c.node-node.result (omega arith)
-    ∙ ap (rest_of c.args.budget) c.node-node.ensures.tree
+    ∙ ap (rest_after_tree c.args.budget) c.node-node.ensures.tree

@@ -1,6 +1,6 @@
 use Rattle.std.proofs.Common.{[], ◌∷◌, length, sym, ◌∙◌, subst}
 use Rattle.std.proofs.lemmas.Bool.{eqb-true, eqb-false}
-use Rattle.view_goal_text.specs.Lines.{words}
+use Rattle.view_goal_text.specs.Lines.{plain_line}
 use Rattle.view_goal_text.specs.Inside.Shown.{AreAdded}
 use Rattle.view_goal_text.proofs.HintLines.{like-none, like-some}
 use Rattle.view_goal_text.proofs.hints.push_rights.Goals as goal
@@ -13,7 +13,7 @@ returns-then-none-clause-exact c =
     let new = c.push_words.new.lines.items in
     let none = eqb-true (length c.args.ids.now) 0 (sym c.is_empty-none.ensures ∙ c.if-none.true) in
     subst (λ ls. AreAdded bound t t old ls new) (sym (like-none t c.args.ids.now none))
-    (subst (λ l. AreAdded bound t t old (words l ∷ []) new) c.in_ok-label.ensures
+    (subst (λ l. AreAdded bound t t old (plain_line l ∷ []) new) c.in_ok-label.ensures
     (c.in_ok-push_words.ensures.exact bound))
 
 pub returns-clause-exact : goal.returns-clause-exact

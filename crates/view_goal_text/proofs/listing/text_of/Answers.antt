@@ -1,6 +1,6 @@
 use Rattle.std.proofs.Common.{◌≡◌, ◌++◌, map, sym, ◌∙◌, ap, subst}
-use Rattle.view_goal_text.specs.Lines.{last_line}
-use Rattle.view_goal_text.specs.Texts.{lines_text}
+use Rattle.view_goal_text.specs.Lines.{verdict_line}
+use Rattle.view_goal_text.specs.Texts.{goal_lines_text}
 use Rattle.view_goal_text.specs.Listing.{parts_lines}
 use Rattle.view_goal_text.specs.Inside.Shown.{shown_line, line_view, AreKnownLines, shown_lines_text}
 use Rattle.view_goal_text.proofs.ShownTexts.{text-same}
@@ -20,9 +20,9 @@ returns c = record {
       let listed = parts_lines bound 0 ps in
       let added : map (line_view u) c.push_parts.new.lines.items ≡ map (shown_line bound) listed =
       made.0 ∙ ap (λ l. map (line_view t) l ++ map (shown_line bound) listed) c.new-lines.ensures.items in
-      let text : c.in_ok-out.out.items ≡ lines_text bound listed =
+      let text : c.in_ok-out.out.items ≡ goal_lines_text bound listed =
       c.in_ok-out.ensures
       ∙ ap shown_lines_text (ap (map (line_view u)) c.as_slice.ensures.value ∙ added)
       ∙ text-same bound listed in
-      c.in_ok-push_last.ensures ∙ (λ k. text k ++ last_line (made.1 k));
+      c.in_ok-push_last.ensures ∙ (λ k. text k ++ verdict_line (made.1 k));
 }

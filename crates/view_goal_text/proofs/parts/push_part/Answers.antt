@@ -1,5 +1,5 @@
 use Rattle.std.proofs.Common.{◌≡◌, ◌++◌, map, is_some, sym, ◌∙◌, ap, subst}
-use Rattle.view_goals.specs.Rows.{PartView}
+use Rattle.view_goals.specs.Rows.{PartRowsView}
 use Rattle.view_marks.specs.Marks.{part_marks, all_true}
 use Rattle.view_goal_text.specs.Listing.{view_lines}
 use Rattle.view_goal_text.specs.Inside.FormTerms.{IsFormTerm, AreFormRows}
@@ -29,8 +29,8 @@ returns-clause-exact c p e =
     c.in_ok-marks.ensures.exact bound p e ∙ ap (λ b. part_marks b p) c.is_some.ensures in
     let marks = c.as_slice.ensures.value ∙ marked in (
       c.in_ok-push_view.ensures.exact
-          (subst (λ (q : PartView). IsFormTerm q.known) (sym same) (form-known bound p))
-          (subst (λ (q : PartView). AreFormRows q.rows) (sym same) (form-rows bound p))
+          (subst (λ (q : PartRowsView). IsFormTerm q.known) (sym same) (form-known bound p))
+          (subst (λ (q : PartRowsView). AreFormRows q.rows) (sym same) (form-rows bound p))
           ∙ (λ k. lines k ++ map (shown_line bound) (view_lines (is_some bound) c.args.number (same k) (marks k))),
       c.all_true.ensures ∙ ap all_true (c.as_slice-2.ensures.value ∙ marked),
     )

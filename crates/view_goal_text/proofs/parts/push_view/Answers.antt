@@ -1,7 +1,7 @@
 use Rattle.std.proofs.Common.{List, [], ◌∷◌, ◌++◌, map, is_some, true, sym, ◌∙◌, ap, subst}
 use Rattle.term_table.specs.Table.{tree_at}
 use Rattle.view_goals.specs.Rows.{row_view}
-use Rattle.view_goal_text.specs.Lines.{Line, words, before, part_title, start_label}
+use Rattle.view_goal_text.specs.Lines.{GoalLine, plain_line, before, part_title, start_label}
 use Rattle.view_goal_text.specs.Listing.{row_lines}
 use Rattle.view_goal_text.specs.Inside.FormTerms.{IsFormTerm, AreFormRows}
 use Rattle.view_goal_text.specs.Inside.Shown.{AreAdded}
@@ -25,7 +25,7 @@ returns-clause-exact c form views =
     let known = grown.same part.known c.requires.part.1 in
     let rows = ap (map (row_view u)) c.as_slice-rows.ensures.value
     ∙ rows-more t u grown part.rows.items c.requires.part.2 in
-    let title = subst (λ l. AreAdded bound t t old (words l ∷ []) one) c.in_ok-title.ensures
+    let title = subst (λ l. AreAdded bound t t old (plain_line l ∷ []) one) c.in_ok-title.ensures
     (c.in_ok-push_words.ensures.exact bound) in
     let start = subst (λ l. AreAdded bound t u one (before l (tree_at t part.known) ∷ []) two)
     c.in_ok-label.ensures c.in_ok-push_formula.ensures.exact in
@@ -39,8 +39,8 @@ returns-clause-exact c form views =
     (subst (λ s. AreAdded bound u v two
     (row_lines (is_some bound) true (s ∷ []) (map (row_view u) c.as_slice-rows.result.now) c.args.marks.now) new)
     known listed) in
-    let first : List Line = words (part_title c.args.number part.at) ∷ [] in
-    let next : List Line = before start_label (tree_at t part.known) ∷ [] in
+    let first : List GoalLine = plain_line (part_title c.args.number part.at) ∷ [] in
+    let next : List GoalLine = before start_label (tree_at t part.known) ∷ [] in
     let last = row_lines (is_some bound) true (tree_at t part.known ∷ []) (map (row_view t) part.rows.items)
     c.args.marks.now in
     added-more bound t t v old first one (next ++ last) new title

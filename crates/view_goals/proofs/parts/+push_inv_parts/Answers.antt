@@ -3,7 +3,7 @@ use Rattle.std.specs.Prelude.{slice_index_or}
 use Rattle.std.proofs.lemmas.List.{drop_more}
 use Rattle.term_table.specs.Table.{tree_at}
 use Rattle.view_goals.specs.Rows.{part_view}
-use Rattle.view_goals.specs.Inside.Reading.{left_of}
+use Rattle.view_goals.specs.Inside.Reading.{first_argument}
 use Rattle.view_goals.specs.Inside.Parts.{part_by, inv_outline, inv_parts_by}
 use Rattle.view_goals.proofs.Appending.{parts-behind}
 use Rattle.view_goals.proofs.parts.+push_inv_parts.Goals as goal
@@ -20,7 +20,7 @@ returns t c =
     let others = inv_parts_by cut.code cut.marks counted later (tree_at u c.right-others.result) in
     let whole = tree_at u c.args.rest in
     let outline = inv_outline cut.code cut.marks counted pair.0 in
-    let here : part_view u c.in_ok-part.part ≡ part_by counted pair.0 outline (left_of whole) =
+    let here : part_view u c.in_ok-part.part ≡ part_by counted pair.0 outline (first_argument whole) =
     c.in_ok-part.ensures.exact ∙ ap (part_by counted pair.0 outline) c.left-here.ensures.is in
     let rest = ap (inv_parts_by cut.code cut.marks counted later) c.right-others.ensures.is in
     let split = drop_more invs c.args.from pair (omega arith) ∙ ap (λ (p : ℕ × ℕ). p ∷ drop (c.args.from + 1) invs) (sym at_from) in

@@ -4,7 +4,7 @@ use Rattle.std.specs.declared.alloc.Global.{Global}
 use Rattle.term_table.specs.Table.{tree_at}
 use Rattle.vcgen.proofs.Parts.{invs-inside}
 use Rattle.view_goals.specs.declared.rows.PartRows.{PartRows}
-use Rattle.view_goals.specs.Rows.{PartView, part_view}
+use Rattle.view_goals.specs.Rows.{PartRowsView, part_view}
 use Rattle.view_goals.specs.Inside.Parts.{parts_by}
 use Rattle.view_goals.proofs.Shown.{shown}
 use Rattle.view_goals.proofs.parts.condition_goals.Goals as goal
@@ -22,4 +22,4 @@ returns-clause-exact c =
     let tree = tree_at t c.args.condition in
     let counted = ap (λ b. parts_by cut.code cut.marks b indices tree) c.is_some.ensures in
     let same = counted ∙ shown code cut.code cut.marks indices c.args.bound tree is c.requires.marks e in
-    subst (λ (z : List PartView). IfOk c.parts_of.result (λ (v : Vec PartRows Global). map (part_view t) v.items ≡ z)) same c.parts_of.ensures.exact
+    subst (λ (z : List PartRowsView). IfOk c.parts_of.result (λ (v : Vec PartRows Global). map (part_view t) v.items ≡ z)) same c.parts_of.ensures.exact

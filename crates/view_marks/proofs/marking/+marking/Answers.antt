@@ -5,7 +5,7 @@ use Rattle.term_table.specs.Measures.{height_of}
 use Rattle.prover_goals.proofs.Kept.{context-more}
 use Rattle.prover_goals.proofs.WordRows.{with_memo}
 use Rattle.prover_goals.proofs.Connecting.{height-shift}
-use Rattle.view_marks.specs.Inside.Shapes.{Alone, Two, Given, kind_of}
+use Rattle.view_marks.specs.Inside.Shapes.{Alone, Two, Given, row_kind}
 use Rattle.view_marks.proofs.Pushing.{if_ok, starts, parts-none, parts-alone, parts-two, parts-given}
 use Rattle.view_marks.proofs.Descending.{marked-easy, marked-parts, marked-both, marked-under}
 use Rattle.view_marks.proofs.marking.+marking.Goals as goal
@@ -55,7 +55,7 @@ pub push_parts-returns-in_ok-push-in-Goal-clause-exact :
 push_parts-returns-in_ok-push-in-Goal-clause-exact t c =
     let a = c.args in
     let rows = a.rows.now in
-    let s = starts rows c.first-item.result Alone c.in-len1-up.len_at_least c.first-item.is (ap kind_of c.in-Goal.is) in
+    let s = starts rows c.first-item.result Alone c.in-len1-up.len_at_least c.first-item.is (ap row_kind c.in-Goal.is) in
     parts-alone a.counted a.table.now a.context.now.hyps a.context.now.outside a.goal rows (take (length rows - 1) (drop 1 rows)) a.marks.now.items
     c.push.new.self.items s c.in_ok-push-in-Goal.ensures.items
 
@@ -64,7 +64,7 @@ push_parts-returns-in-Both-clause-exact t c =
     let a = c.args in
     let rows = a.rows.now in
     let n = c.push_both in
-    let s = starts rows c.first-item.result Two c.in-len1-up.len_at_least c.first-item.is (ap kind_of c.in-Both.is) in
+    let s = starts rows c.first-item.result Two c.in-len1-up.len_at_least c.first-item.is (ap row_kind c.in-Both.is) in
     if_ok n.result
     (λ end both. parts-two a.counted a.table.now a.context.now.hyps a.context.now.outside a.goal rows (take (length rows - 1) (drop 1 rows)) a.marks.now.items
     n.new.marks.items end.now s both)
@@ -75,7 +75,7 @@ push_parts-returns-in-Under-clause-exact t c =
     let a = c.args in
     let rows = a.rows.now in
     let n = c.push_under in
-    let s = starts rows c.first-item.result Given c.in-len1-up.len_at_least c.first-item.is (ap kind_of c.in-Under.is) in
+    let s = starts rows c.first-item.result Given c.in-len1-up.len_at_least c.first-item.is (ap row_kind c.in-Under.is) in
     if_ok n.result
     (λ end under. parts-given a.counted a.table.now a.context.now.hyps a.context.now.outside a.goal rows (take (length rows - 1) (drop 1 rows)) a.marks.now.items
     n.new.marks.items end.now s under)

@@ -1,0 +1,11 @@
+# Easy: an index of any size that two shifts make a multiple of 8.
+      lda r0,0(r31)
+      ldq r1,8(r16)
+      srl r1,3,r1
+      sll r1,3,r1        # the index: a multiple of 8
+      cmpult r1,r17,r2
+      beq r2,done        # it is past the end of the packet
+      addq r16,r1,r1
+      ldq r1,0(r1)
+      and r1,1,r0
+done: ret
