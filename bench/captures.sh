@@ -1,16 +1,15 @@
 #!/usr/bin/env bash
-# Times examples/capture on large captures, one part after the other and several side by side, beside
-# `tcpdump -r` with the same filter, where it is installed: seconds of the clock for a gigabyte, of processor
-# time, and the most memory that one of the processes takes. One capture has frames of 64 to 98 bytes, of
-# twelve kinds, the other the same filled up to 1,514 bytes. Then `pcc run` alone on packet files of the same
-# frames, by `parallel -k`. That all print the same lines, and that tcpdump takes as many frames, is compared;
-# where it isn't so the status is 1.
+# Times examples/capture on large captures, one part after the other and several at a time, beside `tcpdump -r` with
+# an equal filter, if it is installed. It prints seconds of the clock for a gigabyte, of processor time, and the most
+# memory that one process takes. One capture has frames of 64 to 98 bytes, of twelve kinds, the other has them padded
+# to 1,514 bytes. Then come `pcc run` alone on packet files of these frames, by `xargs -P`, and the processor time that
+# is left for the script itself. The status is 1 if lines differ, or if tcpdump takes another number of frames.
 #
 # usage: bench/captures.sh [BYTES]  of a capture, 1,000,000,000 without it; as many are taken in the folder for
 #                                   temporary files, and lines besides
 #
 # PCC is the program that is measured; without it tools/build builds the proved one. JOBS is how many
-# parts are run side by side, as many as there are processors without it.
+# parts are run at a time, as many as there are processors without it.
 set -eu
 top=$(cd "$(dirname "${BASH_SOURCE[0]}")/.." && pwd)
 . "$top/tools/usage.sh"
@@ -106,21 +105,24 @@ def rows(title, frames):
     else:
         print("tcpdump: it isn't installed")
     words = [sys.executable, top + "/examples/capture", "--pcc", binary]
-    row("examples/capture, one part after the other", run(ONE + words + ["filter", container, path]), count, against)
+    whole = run(ONE + words + ["filter", container, path])
+    row("examples/capture, one part after the other", whole, count, against)
     first = lines()
     if taken is not None:
         expect("the frames that are taken", first[1], taken)
-    if shutil.which("parallel") is None:
-        print("GNU parallel: it isn't installed")
-        return
     for number in sorted({1, 2, jobs} - {1}):
         row("examples/capture --jobs %d" % number, run(words + ["--jobs", number, "filter", container, path]), count, against)
         expect("the lines of --jobs %d" % number, lines(), first)
     packets, held = packet_file(frames)
     names = [packets] * max(1, round(count / held))
     for number in (1, jobs):
-        measured = run(["parallel", "--will-cite", "-k", "-j", number, binary, "run", "filter", container, "{}"], names)
+        ones = ONE if number == 1 else []
+        measured = run(ones + ["xargs", "-P", number, "-I{}", binary, "run", "filter", container, "{}"], names)
         row("pcc run on %d packet files of the frames, %d jobs" % (len(names), number), measured, held * len(names), against)
+        if number == 1:
+            own = whole[1] - measured[1] * count / (held * len(names))
+            print("%-52s %8.1f s/GB of processor time, %.2f ms a thousand frames"
+                  % ("the script itself", own / os.path.getsize(path) * 1e9, own / count * 1e6), flush=True)
 
 rows("frames of 64 to 98 bytes", FRAMES)
 rows("frames of 1,514 bytes", [frame.ljust(1514, b"\0") for frame in FRAMES])
