@@ -117,7 +117,9 @@ def rows(title, frames):
     names = [packets] * max(1, round(count / held))
     for number in (1, jobs):
         ones = ONE if number == 1 else []
-        measured = run(ones + ["xargs", "-P", number, "-I{}", binary, "run", "filter", container, "{}"], names)
+        own_file = 'exec "$0" run filter "$1" "$2" > "$3.$$"'  # since several would wait for each other with one
+        measured = run(ones + ["xargs", "-P", number, "-I{}", "sh", "-c", own_file, binary, container, "{}", work + "/run"],
+                       names)
         row("pcc run on %d packet files of the frames, %d jobs" % (len(names), number), measured, held * len(names), against)
         if number == 1:
             own = whole[1] - measured[1] * count / (held * len(names))
