@@ -45,9 +45,9 @@ abbrev pub with_low_byte : ℕ → Bool → ℕ
 with_low_byte word b = word - word % 2 ^ 8 + (if b then 1 else 0)
 
 -- a number that is an offset: one before the code isn't
-abbrev pub offset_of : ℤ → Option ℕ
-offset_of (pos n) = Some n
-offset_of (negsuc n) = None
+abbrev pub code_offset : ℤ → Option ℕ
+code_offset (pos n) = Some n
+code_offset (negsuc n) = None
 
 -- What an instruction does at the state x; `next` is the offset after it.
 module _ (x : X86) (next : ℕ) where
@@ -99,7 +99,7 @@ module _ (x : X86) (next : ℕ) where
 
   -- where a jump leads, which counts from the next instruction
   abbrev pub jump_offset : ℤ → Option ℕ
-  jump_offset disp = offset_of (pos next +ℤ disp)
+  jump_offset disp = code_offset (pos next +ℤ disp)
 
   -- What the instruction does. `next` is the offset of the one after it.
   abbrev pub x86_outcome : X86Insn → X86Step × X86

@@ -64,22 +64,34 @@ scale_factor Two = 2
 scale_factor Four = 4
 scale_factor Eight = 8
 
--- all operators, shifts and conditions
+-- all operators, by their opcodes
 abbrev pub alu_ops : List AluOp
 alu_ops = Add ∷ Or ∷ And ∷ Sub ∷ Xor ∷ Cmp ∷ []
+
+-- all shifts, by their digits
 abbrev pub shift_ops : List ShiftOp
 shift_ops = Shl ∷ Shr ∷ Sar ∷ []
+
+-- all conditions, by their codes
 abbrev pub x86_conds : List X86Cond
 x86_conds = Below ∷ AboveOrEqual ∷ Equal ∷ NotEqual ∷ BelowOrEqual ∷ Above ∷ Sign ∷ NoSign ∷ Less ∷ GreaterOrEqual ∷ LessOrEqual ∷ Greater ∷ []
 
--- what a code names, if anything
+-- the operator of an opcode, if any
 abbrev pub alu_of_opcode : ℕ → Option AluOp
 alu_of_opcode opcode = find (λ op. alu_opcode op == opcode) alu_ops
+
+-- the operator of a digit, if any
 abbrev pub alu_of_digit : ℕ → Option AluOp
 alu_of_digit digit = find (λ op. alu_digit op == digit) alu_ops
+
+-- the shift of a digit, if any
 abbrev pub shift_of_digit : ℕ → Option ShiftOp
 shift_of_digit digit = find (λ op. shift_digit op == digit) shift_ops
+
+-- the condition of a code, if any
 abbrev pub cond_of_code : ℕ → Option X86Cond
 cond_of_code code = find (λ cond. cond_code cond == code) x86_conds
+
+-- the scale of two bits
 abbrev pub scale_of_bits : ℕ → Scale
 scale_of_bits bits = if bits == 0 then One else if bits == 1 then Two else if bits == 2 then Four else Eight

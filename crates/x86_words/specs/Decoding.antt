@@ -17,44 +17,66 @@ pub record BeginsWith (bytes : List ℕ) (i : X86Insn) : Type 0 where
   pub encodes : EncodesX86 front i
   pub whole : bytes ≡ front ++ rest
 
--- a register by three bits, and by its high bit in the REX prefix: R, X or B
+-- the register of three low bits whose high bit is R of the REX prefix
 abbrev pub reg_r : ℕ → ℕ → ℕ
 reg_r prefix low = 8 * (prefix / 4 % 2) + low % 8
+
+-- the register of three low bits whose high bit is X
 abbrev pub reg_x : ℕ → ℕ → ℕ
 reg_x prefix low = 8 * (prefix / 2 % 2) + low % 8
+
+-- the register of three low bits whose high bit is B
 abbrev pub reg_b : ℕ → ℕ → ℕ
 reg_b prefix low = 8 * (prefix % 2) + low % 8
 
--- the four bytes from a place on, the same in two's complement, and the eight bytes from a place on
+-- the number in the four bytes from a place on
 abbrev pub four_at : List ℕ → ℕ → ℕ
 four_at b k = from_le_bytes w32 (slice_index b k ∷ slice_index b (k + 1) ∷ slice_index b (k + 2) ∷ slice_index b (k + 3) ∷ [])
+
+-- that number, in two's complement
 abbrev pub signed_at : List ℕ → ℕ → ℤ
 signed_at b k = cast_signed w32 (four_at b k)
+
+-- the number in the eight bytes from a place on
 abbrev pub eight_at : List ℕ → ℕ → ℕ
 eight_at b k =
     let byte : ℕ → ℕ = λ i. slice_index b (k + i) in
     from_le_bytes w64 (byte 0 ∷ byte 1 ∷ byte 2 ∷ byte 3 ∷ byte 4 ∷ byte 5 ∷ byte 6 ∷ byte 7 ∷ [])
 
--- forms that share an opcode, told apart by the two bits of mod or by the digit
+-- 89: r/m is a register or a quadword
 abbrev pub mov_form : ℕ → ℕ → ℕ → ℤ → X86Insn
 mov_form mode reg rm number = if mode == 3 then Mov rm reg else Store rm number reg
+
+-- an operator's opcode: r/m is a register or a quadword
 abbrev pub alu_form : ℕ → ℕ → ℕ → ℤ → AluOp → X86Insn
 alu_form mode reg rm number op = if mode == 3 then Alu op reg rm else AluLoad op reg rm number
+
+-- 8D: with a displacement, or with a scaled index
 abbrev pub lea_form : ℕ → ℕ → ℕ → ℕ → ℤ → ℕ → X86Insn
 lea_form prefix mode reg rm number sib =
     if mode == 2 then Lea reg rm number else LeaScaled reg (reg_b prefix sib) (reg_x prefix (sib / 8)) (scale_of_bits (sib / 64))
+
+-- F7: the digit decides
 abbrev pub not_form : ℕ → ℕ → ℤ → X86Insn
 not_form digit rm number = if digit == 2 then Not rm else TestImm rm number
 
--- forms whose operator is found by its code
+-- 81: the digit is the operator's
 abbrev pub alu_imm_form : ℕ → ℕ → ℤ → Option X86Insn
 alu_imm_form digit rm number = option_map (λ op. AluImm op rm number) (alu_of_digit digit)
+
+-- C1: the digit is the shift's
 abbrev pub shift_imm_form : ℕ → ℕ → ℕ → Option X86Insn
 shift_imm_form digit rm count = option_map (λ op. ShiftImm op rm count) (shift_of_digit digit)
+
+-- D3: the digit is the shift's
 abbrev pub shift_cl_form : ℕ → ℕ → Option X86Insn
 shift_cl_form digit rm = option_map (λ op. ShiftCl op rm) (shift_of_digit digit)
+
+-- 0F: the second opcode byte has the condition's code
 abbrev pub set_form : ℕ → ℕ → Option X86Insn
 set_form second rm = option_map (λ cond. Set cond rm) (cond_of_code (second % 16))
+
+-- 0F without a prefix: the second opcode byte has the condition's code
 abbrev pub jump_if_form : List ℕ → Option X86Insn
 jump_if_form b = option_map (λ cond. JumpIf cond (signed_at b 2)) (cond_of_code (slice_index b 1 % 16))
 
@@ -67,10 +89,10 @@ wide_form prefix opcode modrm b =
     let rm = reg_b prefix modrm in
     let next = slice_index b 3 in
     let number = signed_at b 3 in
-    if opcode == 0x89 then Some (mov_form mode reg rm number)
+    if opcode / 8 == 0x17 then Some (MovAbs (reg_b prefix opcode) (eight_at b 2))
+    else if opcode == 0x89 then Some (mov_form mode reg rm number)
     else if opcode == 0x8B then Some (Load reg rm number)
     else if opcode == 0xC7 then Some (MovImm rm number)
-    else if opcode / 8 == 0x17 then Some (MovAbs (reg_b prefix opcode) (eight_at b 2))
     else if opcode == 0x81 then alu_imm_form digit rm number
     else if opcode == 0x8D then Some (lea_form prefix mode reg rm number next)
     else if opcode == 0xC1 then shift_imm_form digit rm next
@@ -82,8 +104,8 @@ wide_form prefix opcode modrm b =
 -- without W: a second opcode byte, and ModRM as byte 3, if the first is 0F
 abbrev pub narrow_form : ℕ → ℕ → ℕ → ℕ → List ℕ → Option X86Insn
 narrow_form prefix opcode second modrm b =
-    if opcode == 0x89 then Some (MovFour (reg_b prefix second) (reg_r prefix (second / 8)))
-    else if opcode / 8 == 0x17 then Some (MovZero (reg_b prefix opcode) (four_at b 2))
+    if opcode / 8 == 0x17 then Some (MovZero (reg_b prefix opcode) (four_at b 2))
+    else if opcode == 0x89 then Some (MovFour (reg_b prefix second) (reg_r prefix (second / 8)))
     else if second == 0xB6 then Some (MovByte (reg_r prefix (modrm / 8)) (reg_b prefix modrm))
     else if second == 0xB7 then Some (MovTwo (reg_r prefix (modrm / 8)) (reg_b prefix modrm))
     else set_form second (reg_b prefix modrm)

@@ -1,7 +1,7 @@
 -- The bytes of each instruction: one row a form, each form of one length.
 -- Intel 64 and IA-32 Architectures Software Developer's Manual, volume 2: section 2.1, "Instruction Format" (2.1.5: ModR/M and SIB bytes);
 -- section 2.2.1, "REX Prefixes"; and, for each row, the page of the instruction and its opcode column.
-use Rattle.std.specs.Prelude.{◌≡◌, ℕ, ◌+◌, ◌*◌, ◌/◌, ◌%◌, ◌^◌, ◌<◌, Bool, true, not, ◌==◌, nat_lt, IsTrue, List, [], ◌∷◌, ◌++◌, ℤ, FitsSigned}
+use Rattle.std.specs.Prelude.{◌≡◌, ℕ, ◌+◌, ◌*◌, ◌/◌, ◌%◌, ◌^◌, ◌<◌, Bool, true, not, ◌==◌, nat_lt, List, [], ◌∷◌, ◌++◌, ℤ, FitsSigned}
 use Rattle.std.specs.Int.{to_le_bytes, cast_unsigned, w32, w64}
 use Rattle.x86_words.specs.declared.insn.X86Insn.{X86Insn}
 use Rattle.x86_words.specs.declared.insn.X86Insn.TheVariants.{Mov, MovImm, MovZero, MovAbs, Load, Store, Alu, AluImm, AluLoad, Lea, LeaScaled, ShiftImm, ShiftCl, Not, Test, TestImm, Set, MovByte, MovTwo, MovFour, JumpIf, Jump, Ret, Nop}
@@ -112,36 +112,36 @@ has_operands (ShiftImm op to count) = nat_lt count 64
 has_operands _ = true
 
 -- registers below 16, immediates and displacements of the width that they are written in
-abbrev pub HasWidths : X86Insn → Type 0
-HasWidths (Mov to from) = IsX86Reg to × IsX86Reg from
-HasWidths (MovImm to imm) = IsX86Reg to × FitsSigned w32 imm
-HasWidths (MovZero to imm) = IsX86Reg to × (imm < 2 ^ 32)
-HasWidths (MovAbs to imm) = IsX86Reg to × (imm < 2 ^ 64)
-HasWidths (Load to base disp) = IsX86Reg to × IsX86Reg base × FitsSigned w32 disp
-HasWidths (Store base disp from) = IsX86Reg base × FitsSigned w32 disp × IsX86Reg from
-HasWidths (Alu op to from) = IsX86Reg to × IsX86Reg from
-HasWidths (AluImm op to imm) = IsX86Reg to × FitsSigned w32 imm
-HasWidths (AluLoad op to base disp) = IsX86Reg to × IsX86Reg base × FitsSigned w32 disp
-HasWidths (Lea to base disp) = IsX86Reg to × IsX86Reg base × FitsSigned w32 disp
-HasWidths (LeaScaled to base index scale) = IsX86Reg to × IsX86Reg base × IsX86Reg index
-HasWidths (ShiftImm op to count) = IsX86Reg to
-HasWidths (ShiftCl op to) = IsX86Reg to
-HasWidths (Not to) = IsX86Reg to
-HasWidths (Test left right) = IsX86Reg left × IsX86Reg right
-HasWidths (TestImm left imm) = IsX86Reg left × FitsSigned w32 imm
-HasWidths (Set cond to) = IsX86Reg to
-HasWidths (MovByte to from) = IsX86Reg to × IsX86Reg from
-HasWidths (MovTwo to from) = IsX86Reg to × IsX86Reg from
-HasWidths (MovFour to from) = IsX86Reg to × IsX86Reg from
-HasWidths (JumpIf cond disp) = FitsSigned w32 disp
-HasWidths (Jump disp) = FitsSigned w32 disp
-HasWidths Ret = Unit {0}
-HasWidths Nop = Unit {0}
+abbrev pub FitsFields : X86Insn → Type 0
+FitsFields (Mov to from) = IsX86Reg to × IsX86Reg from
+FitsFields (MovImm to imm) = IsX86Reg to × FitsSigned w32 imm
+FitsFields (MovZero to imm) = IsX86Reg to × (imm < 2 ^ 32)
+FitsFields (MovAbs to imm) = IsX86Reg to × (imm < 2 ^ 64)
+FitsFields (Load to base disp) = IsX86Reg to × IsX86Reg base × FitsSigned w32 disp
+FitsFields (Store base disp from) = IsX86Reg base × FitsSigned w32 disp × IsX86Reg from
+FitsFields (Alu op to from) = IsX86Reg to × IsX86Reg from
+FitsFields (AluImm op to imm) = IsX86Reg to × FitsSigned w32 imm
+FitsFields (AluLoad op to base disp) = IsX86Reg to × IsX86Reg base × FitsSigned w32 disp
+FitsFields (Lea to base disp) = IsX86Reg to × IsX86Reg base × FitsSigned w32 disp
+FitsFields (LeaScaled to base index scale) = IsX86Reg to × IsX86Reg base × IsX86Reg index
+FitsFields (ShiftImm op to count) = IsX86Reg to
+FitsFields (ShiftCl op to) = IsX86Reg to
+FitsFields (Not to) = IsX86Reg to
+FitsFields (Test left right) = IsX86Reg left × IsX86Reg right
+FitsFields (TestImm left imm) = IsX86Reg left × FitsSigned w32 imm
+FitsFields (Set cond to) = IsX86Reg to
+FitsFields (MovByte to from) = IsX86Reg to × IsX86Reg from
+FitsFields (MovTwo to from) = IsX86Reg to × IsX86Reg from
+FitsFields (MovFour to from) = IsX86Reg to × IsX86Reg from
+FitsFields (JumpIf cond disp) = FitsSigned w32 disp
+FitsFields (Jump disp) = FitsSigned w32 disp
+FitsFields Ret = Unit {0}
+FitsFields Nop = Unit {0}
 
 -- an instruction that some bytes encode
 pub record IsX86Insn (i : X86Insn) : Type 0 where
-  pub widths : HasWidths i
-  pub operands : IsTrue (has_operands i)
+  pub widths : FitsFields i
+  pub operands : has_operands i ≡ true
 
 -- The bytes encode the instruction.
 pub record EncodesX86 (bytes : List ℕ) (i : X86Insn) : Type 0 where
