@@ -143,7 +143,7 @@ module _ (b : List ℕ) where
       (pick AreWide (eqb op 0xD3) _ _ (mapped _ (shift_of_digit (m / 8 % 8)) (λ o _. s))
       (pick AreWide (eqb op 0xF7) _ _ (pick IsWide (eqb (m / 8 % 8) 2) _ _ (λ _. s) (λ _. (s, n)))
       (pick AreWide (eqb op 0x85) _ _ (λ _. (s, r))
-      (mapped _ (alu_of_opcode op) (λ o. pick IsWide (eqb (m / 64) 3) _ _ (λ _. (r, s)) (λ _. (r, s, n))))))))))))
+      (mapped _ (alu_of_opcode op) (λ o. pick IsWide (eqb (m / 64) 3) _ _ (λ _. (r, s)) (λ _. (r, s, n)))))))))))))
 
   narrow-form : (p op second m : ℕ) → AreWide (narrow_form p op second m b)
   narrow-form p op second m =
@@ -211,3 +211,7 @@ front-within b i h =
     let whole : b ≡ bytes_of i ++ h.rest = h.whole ∙ ap (λ l. l ++ h.rest) h.encodes.own in
     let count : length b ≡ length (bytes_of i) + length h.rest = ap length whole ∙ length-append (bytes_of i) h.rest in
     omega (arith, count, length-bytes_of i)
+
+pub found-within : (b : List ℕ) (r : Option X86Insn) → r ≡ insn_at_front b → IfSome r (λ i. length_of i ≤ length b)
+found-within b None e = tt
+found-within b (Some i) e = front-within b i (begins b i (sym e))

@@ -1,6 +1,6 @@
 -- What is written is read: the form at the front of an instruction's bytes is the instruction.
 use Rattle.std.proofs.Common.{◌≡◌, ℕ, ◌+◌, ◌*◌, ◌/◌, ◌%◌, ◌^◌, ◌<◌, List, [], ◌∷◌, ◌++◌, length, Option, Some, option_map, refl, ap, ◌∙◌, arith, ℤ, pos, negsuc, FitsSigned}
-use Rattle.std.specs.Int.{to_le_bytes, from_le_bytes, cast_signed, cast_unsigned, w32, w64}
+use Rattle.std.specs.Int.{byte_at, to_le_bytes, from_le_bytes, cast_signed, cast_unsigned, w32, w64}
 use Rattle.std.proofs.lemmas.Int.{to_z-of_z}
 use Rattle.std.proofs.lemmas.Nat.{from_le_bytes-to_le_bytes_4, from_le_bytes-to_le_bytes_8}
 use Rattle.x86_words.specs.declared.operators.AluOp.{AluOp}
@@ -168,8 +168,11 @@ lea-scaled : (p m s : ℕ) (b : List ℕ) → m / 64 ≡ 1 →
     wide_form p 0x8D m (p ∷ 0x8D ∷ m ∷ s ∷ b) ≡ Some (LeaScaled (reg_r p (m / 8)) (reg_b p s) (reg_x p (s / 8)) (scale_of_bits (s / 64)))
 lea-scaled p m s b h = rw h refl
 
-digit-form : (f : ℕ → Option X86Insn) (a d : ℕ) (j : Option X86Insn) → a ≡ d → f d ≡ j → f a ≡ j
-digit-form f a d j e h = ap f e ∙ h
+zero-form : (p op s m : ℕ) (b : List ℕ) → op / 8 ≡ 0x17 → narrow_form p op s m b ≡ Some (MovZero (reg_b p op) (four_at b 2))
+zero-form p op s m b h = rw h refl
+
+abs-form : (p op m : ℕ) (b : List ℕ) → op / 8 ≡ 0x17 → wide_form p op m b ≡ Some (MovAbs (reg_b p op) (eight_at b 2))
+abs-form p op m b h = rw h refl
 
 -- ---- each form
 
@@ -186,45 +189,45 @@ module _ (rest : List ℕ) where
 
   pub reading : (i : X86Insn) → FitsFields i → IsRead i
   reading (Mov to from) h =
-      wide-at (rex 1 from 0 to) 0x89 (modrm 3 from to) _ (prefix-is 1 from 0 to h.1 zero-reg h.0) ∙ mov-reg _ _ _ (mode-is 3 from to)
+      wide-at (rex 1 from 0 to) 0x89 (modrm 3 from to) rest (prefix-is 1 from 0 to h.1 zero-reg h.0) ∙ mov-reg (rex 1 from 0 to) (modrm 3 from to) (bytes_of (Mov to from) ++ rest) (mode-is 3 from to)
       ∙ two Mov _ _ to from (rm-is 1 from 0 3 from to h.1 zero-reg h.0) (reg-is 1 0 to 3 from to h.1 zero-reg h.0)
   reading (MovImm to imm) h =
-      wide-at (rex 1 0 0 to) 0xC7 (modrm 3 0 to) _ (prefix-is 1 0 0 to zero-reg zero-reg h.0)
+      wide-at (rex 1 0 0 to) 0xC7 (modrm 3 0 to) (four_bytes imm ++ rest) (prefix-is 1 0 0 to zero-reg zero-reg h.0)
       ∙ with_number MovImm _ to _ imm (rm-is 1 0 0 3 0 to zero-reg zero-reg h.0) (number-is imm h.1)
   reading (MovZero to imm) h =
-      narrow-at (rex 0 0 0 to) (0xB8 + to % 8) _ _ _ (prefix-is 0 0 0 to zero-reg zero-reg h.0) ∙ rw (opcode-is to) refl
+      narrow-at (rex 0 0 0 to) (0xB8 + to % 8) (byte_at 0 imm) (byte_at 1 imm) (byte_at 2 imm ∷ byte_at 3 imm ∷ rest) (prefix-is 0 0 0 to zero-reg zero-reg h.0) ∙ zero-form (rex 0 0 0 to) (0xB8 + to % 8) (byte_at 0 imm) (byte_at 1 imm) (bytes_of (MovZero to imm) ++ rest) (opcode-is to)
       ∙ two MovZero _ _ to imm (low-is 0 to h.0) (from_le_bytes-to_le_bytes_4 imm h.1)
   reading (MovAbs to imm) h =
-      wide-at (rex 1 0 0 to) (0xB8 + to % 8) _ _ (prefix-is 1 0 0 to zero-reg zero-reg h.0) ∙ rw (opcode-is to) refl
+      wide-at (rex 1 0 0 to) (0xB8 + to % 8) (byte_at 0 imm) (byte_at 1 imm ∷ byte_at 2 imm ∷ byte_at 3 imm ∷ byte_at 4 imm ∷ byte_at 5 imm ∷ byte_at 6 imm ∷ byte_at 7 imm ∷ rest) (prefix-is 1 0 0 to zero-reg zero-reg h.0) ∙ abs-form (rex 1 0 0 to) (0xB8 + to % 8) (byte_at 0 imm) (bytes_of (MovAbs to imm) ++ rest) (opcode-is to)
       ∙ two MovAbs _ _ to imm (low-is 1 to h.0) (from_le_bytes-to_le_bytes_8 imm h.1)
   reading (Load to base disp) h =
-      wide-at (rex 1 to 0 base) 0x8B (modrm 2 to base) _ (prefix-is 1 to 0 base h.0 zero-reg h.1)
+      wide-at (rex 1 to 0 base) 0x8B (modrm 2 to base) (four_bytes disp ++ rest) (prefix-is 1 to 0 base h.0 zero-reg h.1)
       ∙ three Load _ _ to base _ disp (reg-is 1 0 base 2 to base h.0 zero-reg h.1) (rm-is 1 to 0 2 to base h.0 zero-reg h.1) (number-is disp h.2)
   reading (Store base disp from) h =
-      wide-at (rex 1 from 0 base) 0x89 (modrm 2 from base) _ (prefix-is 1 from 0 base h.2 zero-reg h.0) ∙ mov-memory _ _ _ (mode-is 2 from base)
+      wide-at (rex 1 from 0 base) 0x89 (modrm 2 from base) (four_bytes disp ++ rest) (prefix-is 1 from 0 base h.2 zero-reg h.0) ∙ mov-memory (rex 1 from 0 base) (modrm 2 from base) (bytes_of (Store base disp from) ++ rest) (mode-is 2 from base)
       ∙ three (λ x y z. Store x z y) _ _ base from _ disp (rm-is 1 from 0 2 from base h.2 zero-reg h.0) (reg-is 1 0 base 2 from base h.2 zero-reg h.0) (number-is disp h.1)
   reading (Alu op to from) h =
-      wide-at (rex 1 to 0 from) (alu_opcode op) (modrm 3 to from) _ (prefix-is 1 to 0 from h.0 zero-reg h.1) ∙ alu-reg op _ _ _ (mode-is 3 to from)
+      wide-at (rex 1 to 0 from) (alu_opcode op) (modrm 3 to from) rest (prefix-is 1 to 0 from h.0 zero-reg h.1) ∙ alu-reg op (rex 1 to 0 from) (modrm 3 to from) (bytes_of (Alu op to from) ++ rest) (mode-is 3 to from)
       ∙ two (Alu op) _ _ to from (reg-is 1 0 from 3 to from h.0 zero-reg h.1) (rm-is 1 to 0 3 to from h.0 zero-reg h.1)
   reading (AluImm op to imm) h =
       let d = alu_digit op in
       let below = alu_digit-below op in
       let p = rex 1 d 0 to in
       let m = modrm 3 d to in
-      wide-at p 0x81 m _ (prefix-is 1 d 0 to (digit-reg d below) zero-reg h.0)
+      wide-at p 0x81 m (four_bytes imm ++ rest) (prefix-is 1 d 0 to (digit-reg d below) zero-reg h.0)
       ∙ ap (λ e. alu_imm_form e (reg_b p m) (signed_at (bytes_of (AluImm op to imm) ++ rest) 3)) (digit-is 3 d to below)
       ∙ ap (option_map (λ o. AluImm o (reg_b p m) (signed_at (bytes_of (AluImm op to imm) ++ rest) 3))) (alu-found op)
       ∙ with_number (AluImm op) _ to _ imm (rm-is 1 d 0 3 d to (digit-reg d below) zero-reg h.0) (number-is imm h.1)
   reading (AluLoad op to base disp) h =
-      wide-at (rex 1 to 0 base) (alu_opcode op) (modrm 2 to base) _ (prefix-is 1 to 0 base h.0 zero-reg h.1) ∙ alu-memory op _ _ _ (mode-is 2 to base)
+      wide-at (rex 1 to 0 base) (alu_opcode op) (modrm 2 to base) (four_bytes disp ++ rest) (prefix-is 1 to 0 base h.0 zero-reg h.1) ∙ alu-memory op (rex 1 to 0 base) (modrm 2 to base) (bytes_of (AluLoad op to base disp) ++ rest) (mode-is 2 to base)
       ∙ three (AluLoad op) _ _ to base _ disp (reg-is 1 0 base 2 to base h.0 zero-reg h.1) (rm-is 1 to 0 2 to base h.0 zero-reg h.1) (number-is disp h.2)
   reading (Lea to base disp) h =
-      wide-at (rex 1 to 0 base) 0x8D (modrm 2 to base) _ (prefix-is 1 to 0 base h.0 zero-reg h.1) ∙ lea-memory _ _ _ (mode-is 2 to base)
+      wide-at (rex 1 to 0 base) 0x8D (modrm 2 to base) (four_bytes disp ++ rest) (prefix-is 1 to 0 base h.0 zero-reg h.1) ∙ lea-memory (rex 1 to 0 base) (modrm 2 to base) (bytes_of (Lea to base disp) ++ rest) (mode-is 2 to base)
       ∙ three Lea _ _ to base _ disp (reg-is 1 0 base 2 to base h.0 zero-reg h.1) (rm-is 1 to 0 2 to base h.0 zero-reg h.1) (number-is disp h.2)
   reading (LeaScaled to base index s) h =
       let p = rex 1 to index base in
       let sib = modrm (scale_bits s) index base in
-      wide-at p 0x8D (modrm 1 to 4) _ (prefix-is 1 to index base h.0 h.2 h.1) ∙ lea-scaled p (modrm 1 to 4) sib _ (mode-is 1 to 4)
+      wide-at p 0x8D (modrm 1 to 4) (sib ∷ 0 ∷ rest) (prefix-is 1 to index base h.0 h.2 h.1) ∙ lea-scaled p (modrm 1 to 4) sib (0 ∷ rest) (mode-is 1 to 4)
       ∙ two (λ x y. LeaScaled x y (reg_x p (sib / 8)) (scale_of_bits (sib / 64))) _ _ to base (reg-is 1 index base 1 to 4 h.0 h.2 h.1) (rm-is 1 to index (scale_bits s) index base h.0 h.2 h.1)
       ∙ one (λ x. LeaScaled to base x (scale_of_bits (sib / 64))) _ index (index-is 1 to base (scale_bits s) index base h.0 h.2 h.1)
       ∙ ap (λ x. Some (LeaScaled to base index (scale_of_bits x))) (mode-is (scale_bits s) index base) ∙ ap (λ x. Some (LeaScaled to base index x)) (scale-found s)
@@ -233,7 +236,7 @@ module _ (rest : List ℕ) where
       let below = shift_digit-below op in
       let p = rex 1 d 0 to in
       let m = modrm 3 d to in
-      wide-at p 0xC1 m _ (prefix-is 1 d 0 to (digit-reg d below) zero-reg h)
+      wide-at p 0xC1 m (count ∷ rest) (prefix-is 1 d 0 to (digit-reg d below) zero-reg h)
       ∙ ap (λ e. shift_imm_form e (reg_b p m) count) (digit-is 3 d to below) ∙ ap (option_map (λ o. ShiftImm o (reg_b p m) count)) (shift-found op)
       ∙ one (λ x. ShiftImm op x count) _ to (rm-is 1 d 0 3 d to (digit-reg d below) zero-reg h)
   reading (ShiftCl op to) h =
@@ -241,31 +244,31 @@ module _ (rest : List ℕ) where
       let below = shift_digit-below op in
       let p = rex 1 d 0 to in
       let m = modrm 3 d to in
-      wide-at p 0xD3 m _ (prefix-is 1 d 0 to (digit-reg d below) zero-reg h)
+      wide-at p 0xD3 m rest (prefix-is 1 d 0 to (digit-reg d below) zero-reg h)
       ∙ ap (λ e. shift_cl_form e (reg_b p m)) (digit-is 3 d to below) ∙ ap (option_map (λ o. ShiftCl o (reg_b p m))) (shift-found op)
       ∙ one (ShiftCl op) _ to (rm-is 1 d 0 3 d to (digit-reg d below) zero-reg h)
   reading (Not to) h =
-      wide-at (rex 1 2 0 to) 0xF7 (modrm 3 2 to) _ (prefix-is 1 2 0 to (omega arith) zero-reg h)
+      wide-at (rex 1 2 0 to) 0xF7 (modrm 3 2 to) rest (prefix-is 1 2 0 to (omega arith) zero-reg h)
       ∙ ap (λ e. Some (not_form e (reg_b (rex 1 2 0 to) (modrm 3 2 to)) (signed_at (bytes_of (Not to) ++ rest) 3))) (digit-is 3 2 to (omega arith))
       ∙ one Not _ to (rm-is 1 2 0 3 2 to (omega arith) zero-reg h)
   reading (Test left right) h =
-      wide-at (rex 1 right 0 left) 0x85 (modrm 3 right left) _ (prefix-is 1 right 0 left h.1 zero-reg h.0)
+      wide-at (rex 1 right 0 left) 0x85 (modrm 3 right left) rest (prefix-is 1 right 0 left h.1 zero-reg h.0)
       ∙ two Test _ _ left right (rm-is 1 right 0 3 right left h.1 zero-reg h.0) (reg-is 1 0 left 3 right left h.1 zero-reg h.0)
   reading (TestImm left imm) h =
-      wide-at (rex 1 0 0 left) 0xF7 (modrm 3 0 left) _ (prefix-is 1 0 0 left zero-reg zero-reg h.0)
+      wide-at (rex 1 0 0 left) 0xF7 (modrm 3 0 left) (four_bytes imm ++ rest) (prefix-is 1 0 0 left zero-reg zero-reg h.0)
       ∙ ap (λ e. Some (not_form e (reg_b (rex 1 0 0 left) (modrm 3 0 left)) (signed_at (bytes_of (TestImm left imm) ++ rest) 3))) (digit-is 3 0 left (omega arith))
       ∙ with_number TestImm _ left _ imm (rm-is 1 0 0 3 0 left zero-reg zero-reg h.0) (number-is imm h.1)
   reading (Set c to) h =
-      narrow-at (rex 0 0 0 to) 0x0F (0x90 + cond_code c) (modrm 3 0 to) _ (prefix-is 0 0 0 to zero-reg zero-reg h)
-      ∙ set-form c _ _ _ ∙ one (Set c) _ to (rm-is 0 0 0 3 0 to zero-reg zero-reg h)
+      narrow-at (rex 0 0 0 to) 0x0F (0x90 + cond_code c) (modrm 3 0 to) rest (prefix-is 0 0 0 to zero-reg zero-reg h)
+      ∙ set-form c (rex 0 0 0 to) (modrm 3 0 to) (bytes_of (Set c to) ++ rest) ∙ one (Set c) _ to (rm-is 0 0 0 3 0 to zero-reg zero-reg h)
   reading (MovByte to from) h =
-      narrow-at (rex 0 to 0 from) 0x0F 0xB6 (modrm 3 to from) _ (prefix-is 0 to 0 from h.0 zero-reg h.1)
+      narrow-at (rex 0 to 0 from) 0x0F 0xB6 (modrm 3 to from) rest (prefix-is 0 to 0 from h.0 zero-reg h.1)
       ∙ two MovByte _ _ to from (reg-is 0 0 from 3 to from h.0 zero-reg h.1) (rm-is 0 to 0 3 to from h.0 zero-reg h.1)
   reading (MovTwo to from) h =
-      narrow-at (rex 0 to 0 from) 0x0F 0xB7 (modrm 3 to from) _ (prefix-is 0 to 0 from h.0 zero-reg h.1)
+      narrow-at (rex 0 to 0 from) 0x0F 0xB7 (modrm 3 to from) rest (prefix-is 0 to 0 from h.0 zero-reg h.1)
       ∙ two MovTwo _ _ to from (reg-is 0 0 from 3 to from h.0 zero-reg h.1) (rm-is 0 to 0 3 to from h.0 zero-reg h.1)
   reading (MovFour to from) h =
-      four-at (rex 0 from 0 to) (modrm 3 from to) _ (prefix-is 0 from 0 to h.1 zero-reg h.0)
+      four-at (rex 0 from 0 to) (modrm 3 from to) rest (prefix-is 0 from 0 to h.1 zero-reg h.0)
       ∙ two MovFour _ _ to from (rm-is 0 from 0 3 from to h.1 zero-reg h.0) (reg-is 0 0 to 3 from to h.1 zero-reg h.0)
   reading (JumpIf c disp) h =
       ap (option_map (λ o. JumpIf o (signed_at (bytes_of (JumpIf c disp) ++ rest) 2))) (jump-found c) ∙ ap (λ z. Some (JumpIf c z)) (number-is disp h)

@@ -282,10 +282,22 @@ fn form_at_front(bytes: &[u8]) -> Option<X86Insn>
 }
 
 /// Checks whether the value is an instruction, and the bytes begin with its own.
-fn is_own(bytes: &[u8], insn: X86Insn) -> bool
-    ensures { result ≡ decoding.is_own bytes.now insn }
+fn is_own(bytes: &[u8], insn: &X86Insn) -> bool
+    ensures { result ≡ decoding.is_own bytes.now insn.now }
 {
     insn.has_operands() && bytes.starts_with(insn.bytes().as_slice())
+}
+
+/// Returns the instruction at the front of the bytes, or None if they begin with none.
+fn at_front(bytes: &[u8]) -> Option<X86Insn>
+    ensures { result ≡ decoding.insn_at_front bytes.now }
+{
+    let insn = form_at_front(bytes)?;
+    if is_own(bytes, &insn) {
+        Some(insn)
+    } else {
+        None
+    }
 }
 
 /// Returns the instruction at the front of the bytes, or None if they begin with none.
@@ -294,6 +306,5 @@ pub fn decode(bytes: &[u8]) -> Option<X86Insn>
     ensures begins { (i : X86Insn) → (result ≡ Some i) ↔ decoding.BeginsWith bytes.now i }
     ensures within { IfSome result (λ i. length_of i ≤ length bytes.now) }
 {
-    let insn = form_at_front(bytes)?;
-    if is_own(bytes, insn) { Some(insn) } else { None }
+    at_front(bytes)
 }
