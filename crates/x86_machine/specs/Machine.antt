@@ -49,8 +49,12 @@ abbrev pub code_offset : ℤ → Option ℕ
 code_offset (pos n) = Some n
 code_offset (negsuc n) = None
 
--- What an instruction does at the state x; `next` is the offset after it.
-module _ (x : X86) (next : ℕ) where
+-- where a jump leads, which counts from the next instruction
+abbrev pub jump_offset : ℕ → ℤ → Option ℕ
+jump_offset next disp = code_offset (pos next +ℤ disp)
+
+-- What is done at the state x.
+module _ (x : X86) where
   -- no step
   abbrev pub is_stuck : X86Step × X86
   is_stuck = (steps.Stuck, x)
@@ -63,31 +67,11 @@ module _ (x : X86) (next : ℕ) where
   abbrev pub disp_address : ℕ → ℤ → ℕ
   disp_address base disp = (reg_word base + extended disp) % 2 ^ 64
 
-  -- a register gets a word
-  abbrev pub puts : ℕ → ℕ → X86Step × X86
-  puts to word = (steps.Moved, record x { at = next; regs = slice_set x.regs to word })
-
   -- the quadword at an address, if it may be loaded
   abbrev pub loads : ℕ → (ℕ → X86Step × X86) → X86Step × X86
   loads a go = if allowed x.rights.reads a then go (read x.memory a) else is_stuck
 
-  -- the quadword at an address gets a word, if it may be stored
-  abbrev pub stores : ℕ → ℕ → X86Step × X86
-  stores a word = if allowed x.rights.writes a then (steps.Moved, record x { at = next; memory = write x.memory a word }) else is_stuck
-
-  -- an operator on a register and a word
-  abbrev pub operates : AluOp → ℕ → ℕ → X86Step × X86
-  operates op to b = (steps.Moved, record x { at = next; regs = alu_regs op x.regs to b; flags = Some (alu_flags op (reg_word to) b) })
-
-  -- a shift by a count below 64: flags depend on the count, and are left undefined
-  abbrev pub shifts : ShiftOp → ℕ → ℕ → X86Step × X86
-  shifts op to count = (steps.Moved, record x { at = next; regs = slice_set x.regs to (shift_word op (reg_word to) count); flags = None })
-
-  -- the flags of the bitwise and
-  abbrev pub tests : ℕ → ℕ → X86Step × X86
-  tests a b = (steps.Moved, record x { at = next; flags = Some (alu_flags And a b) })
-
-  -- by a condition, if the flags are defined
+  -- by the flags, if they are defined
   abbrev pub asks : Option Flags → (Flags → X86Step × X86) → X86Step × X86
   asks None go = is_stuck
   asks (Some f) go = go f
@@ -97,44 +81,62 @@ module _ (x : X86) (next : ℕ) where
   jumps None = is_stuck
   jumps (Some offset) = (steps.Moved, record x { at = offset })
 
-  -- where a jump leads, which counts from the next instruction
-  abbrev pub jump_offset : ℤ → Option ℕ
-  jump_offset disp = code_offset (pos next +ℤ disp)
+  -- The rest goes on at `next`, the offset after the instruction.
+  module _ (next : ℕ) where
+    -- a register gets a word
+    abbrev pub puts : ℕ → ℕ → X86Step × X86
+    puts to word = (steps.Moved, record x { at = next; regs = slice_set x.regs to word })
 
-  -- What the instruction does. `next` is the offset of the one after it.
-  abbrev pub x86_outcome : X86Insn → X86Step × X86
-  -- "MOV"
-  x86_outcome (Mov to from) = puts to (reg_word from)
-  x86_outcome (MovImm to imm) = puts to (extended imm)
-  x86_outcome (MovZero to imm) = puts to imm
-  x86_outcome (MovAbs to imm) = puts to imm
-  x86_outcome (Load to base disp) = loads (disp_address base disp) (puts to)
-  x86_outcome (Store base disp from) = stores (disp_address base disp) (reg_word from)
-  -- "ADD", "OR", "AND", "SUB", "XOR", "CMP"
-  x86_outcome (Alu op to from) = operates op to (reg_word from)
-  x86_outcome (AluImm op to imm) = operates op to (extended imm)
-  x86_outcome (AluLoad op to base disp) = loads (disp_address base disp) (operates op to)
-  -- "LEA": flags stay
-  x86_outcome (Lea to base disp) = puts to (disp_address base disp)
-  x86_outcome (LeaScaled to base index scale) = puts to ((reg_word base + scale_factor scale * reg_word index) % 2 ^ 64)
-  -- "SAL/SAR/SHL/SHR": the count is taken modulo 64
-  x86_outcome (ShiftImm op to count) = shifts op to count
-  x86_outcome (ShiftCl op to) = shifts op to (reg_word 1 % 64)
-  -- "NOT": flags stay; "TEST"
-  x86_outcome (Not to) = puts to (2 ^ 64 - 1 - reg_word to)
-  x86_outcome (Test left right) = tests (reg_word left) (reg_word right)
-  x86_outcome (TestImm left imm) = tests (reg_word left) (extended imm)
-  -- "SETcc"; "MOVZX"; "MOV" of 32 bits, whose result is zero-extended
-  x86_outcome (Set cond to) = asks x.flags (λ f. puts to (with_low_byte (reg_word to) (cond_holds cond f)))
-  x86_outcome (MovByte to from) = puts to (reg_word from % 2 ^ 8)
-  x86_outcome (MovTwo to from) = puts to (reg_word from % 2 ^ 16)
-  x86_outcome (MovFour to from) = puts to (reg_word from % 2 ^ 32)
-  -- "Jcc", "JMP"
-  x86_outcome (JumpIf cond disp) = asks x.flags (λ f. jumps (if cond_holds cond f then jump_offset disp else Some next))
-  x86_outcome (Jump disp) = jumps (jump_offset disp)
-  -- "RET": what it does to rsp and where it goes is the caller's side; "NOP"
-  x86_outcome Ret = (steps.Left, x)
-  x86_outcome Nop = (steps.Moved, record x { at = next })
+    -- the quadword at an address gets a word, if it may be stored
+    abbrev pub stores : ℕ → ℕ → X86Step × X86
+    stores a word = if allowed x.rights.writes a then (steps.Moved, record x { at = next; memory = write x.memory a word }) else is_stuck
+
+    -- an operator on a register and a word
+    abbrev pub operates : AluOp → ℕ → ℕ → X86Step × X86
+    operates op to b = (steps.Moved, record x { at = next; regs = alu_regs op x.regs to b; flags = Some (alu_flags op (reg_word to) b) })
+
+    -- a shift by a count: the flags depend on it, and are left undefined
+    abbrev pub shifts : ShiftOp → ℕ → ℕ → X86Step × X86
+    shifts op to count = (steps.Moved, record x { at = next; regs = slice_set x.regs to (shift_word op (reg_word to) count); flags = None })
+
+    -- the flags of the bitwise and
+    abbrev pub tests : ℕ → ℕ → X86Step × X86
+    tests a b = (steps.Moved, record x { at = next; flags = Some (alu_flags And a b) })
+
+    -- What the instruction does.
+    abbrev pub x86_outcome : X86Insn → X86Step × X86
+    -- "MOV"
+    x86_outcome (Mov to from) = puts to (reg_word from)
+    x86_outcome (MovImm to imm) = puts to (extended imm)
+    x86_outcome (MovZero to imm) = puts to imm
+    x86_outcome (MovAbs to imm) = puts to imm
+    x86_outcome (Load to base disp) = loads (disp_address base disp) (puts to)
+    x86_outcome (Store base disp from) = stores (disp_address base disp) (reg_word from)
+    -- "ADD", "OR", "AND", "SUB", "XOR", "CMP"
+    x86_outcome (Alu op to from) = operates op to (reg_word from)
+    x86_outcome (AluImm op to imm) = operates op to (extended imm)
+    x86_outcome (AluLoad op to base disp) = loads (disp_address base disp) (operates op to)
+    -- "LEA": flags stay
+    x86_outcome (Lea to base disp) = puts to (disp_address base disp)
+    x86_outcome (LeaScaled to base index scale) = puts to ((reg_word base + scale_factor scale * reg_word index) % 2 ^ 64)
+    -- "SAL/SAR/SHL/SHR": the count is taken modulo 64
+    x86_outcome (ShiftImm op to count) = shifts op to count
+    x86_outcome (ShiftCl op to) = shifts op to (reg_word 1 % 64)
+    -- "NOT": flags stay; "TEST"
+    x86_outcome (Not to) = puts to (2 ^ 64 - 1 - reg_word to)
+    x86_outcome (Test left right) = tests (reg_word left) (reg_word right)
+    x86_outcome (TestImm left imm) = tests (reg_word left) (extended imm)
+    -- "SETcc"; "MOVZX"; "MOV" of 32 bits, whose result is zero-extended
+    x86_outcome (Set cond to) = asks x.flags (λ f. puts to (with_low_byte (reg_word to) (cond_holds cond f)))
+    x86_outcome (MovByte to from) = puts to (reg_word from % 2 ^ 8)
+    x86_outcome (MovTwo to from) = puts to (reg_word from % 2 ^ 16)
+    x86_outcome (MovFour to from) = puts to (reg_word from % 2 ^ 32)
+    -- "Jcc", "JMP"
+    x86_outcome (JumpIf cond disp) = asks x.flags (λ f. jumps (if cond_holds cond f then jump_offset next disp else Some next))
+    x86_outcome (Jump disp) = jumps (jump_offset next disp)
+    -- "RET": what it does to rsp and where it goes is the caller's side; "NOP"
+    x86_outcome Ret = (steps.Left, x)
+    x86_outcome Nop = (steps.Moved, record x { at = next })
 
 -- The instruction stands in the code at the offset.
 pub record StandsAtOffset (code : List ℕ) (at : ℕ) (i : X86Insn) : Type 0 where

@@ -1,10 +1,11 @@
 //! The checking machine: states with one span of memory.
 
-ghost use Rattle.std.specs.Prelude.{◌≡◌, ◌+◌, ◌*◌, ◌%◌, ◌^◌, ◌<◌, ◌≤◌, ℕ, length, slice_index, if◌then◌else◌, Some, None, vec_len, pos, ◌+ℤ◌, IfSome};
+ghost use Rattle.std.specs.Prelude.{◌≡◌, ◌+◌, ◌*◌, ◌%◌, ◌^◌, ◌<◌, ◌≤◌, length, slice_index, if◌then◌else◌, Some, None, vec_len, IfSome};
 ghost use Rattle.word_ops.specs.Memory as memory;
 ghost use Rattle.word_ops.specs.Rights.{allowed};
 ghost use Rattle.x86_words.specs.Codes.{scale_factor};
 ghost use Rattle.x86_words.specs.Encoding.{length_of};
+ghost use Rattle.x86_machine.specs.Flags as defined;
 ghost use Rattle.x86_machine.specs.Machine as machine;
 ghost use Rattle.x86_machine.specs.States as states;
 ghost use Rattle.x86_machine.specs.Inside.Places as places;
@@ -46,7 +47,7 @@ impl X86Machine {
     pub fn new(regs: [u64; 16], flags: Option<Flags>, base: u64, words: Vec<u64>) -> X86Machine
         requires aligned { base % 8 ≡ 0 }
         requires to { base + 8 * vec_len words ≤ 2 ^ 64 }
-        ensures { result ≡ states.span_state 0 regs.entry flags base words.items }
+        ensures { result ≡ states.span_state 0 regs flags base words.items }
     {
         X86Machine {
             at: 0,
@@ -122,7 +123,7 @@ impl X86Machine {
     /// Loads a quadword into a register, if it may be loaded.
     fn load(&mut self, next: usize, to: X86Reg, addr: u64) -> X86Step
         ensures { (result, self.new)
-            ≡ machine.loads self.old next addr (machine.puts self.old next to) }
+            ≡ machine.loads self.old addr (machine.puts self.old next to) }
     {
         match self.word_at(addr) {
             Some(word) => self.put(next, to, word),
@@ -159,7 +160,7 @@ impl X86Machine {
     /// Applies an operator to a register and a quadword, if that may be loaded.
     fn operate_at(&mut self, next: usize, op: AluOp, to: X86Reg, addr: u64) -> X86Step
         ensures { (result, self.new)
-            ≡ machine.loads self.old next addr (machine.operates self.old next op to) }
+            ≡ machine.loads self.old addr (machine.operates self.old next op to) }
     {
         match self.word_at(addr) {
             Some(word) => self.operate(next, op, to, word),
@@ -201,13 +202,21 @@ impl X86Machine {
 
     /// Goes on at an offset, if there is one.
     fn go_to(&mut self, offset: Option<usize>) -> X86Step
-        ensures { (next : ℕ) → (result, self.new) ≡ machine.jumps self.old next offset }
+        ensures { (result, self.new) ≡ machine.jumps self.old offset }
     {
         let Some(offset) = offset else {
             return X86Step::Stuck;
         };
         self.at = offset;
         X86Step::Moved
+    }
+
+    /// Jumps, unless that leads to before the code.
+    fn jump(&mut self, next: usize, disp: i32) -> X86Step
+        requires { next < 2 ^ 63 }
+        ensures { (result, self.new) ≡ machine.jumps self.old (machine.jump_offset next disp) }
+    {
+        self.go_to(jump_offset(next, disp))
     }
 
     /// Jumps if a condition holds, if the flags are defined.
@@ -219,19 +228,15 @@ impl X86Machine {
         let Some(flags) = self.flags else {
             return X86Step::Stuck;
         };
-        if cond_holds(cond, flags) {
-            self.go_to(jump_offset(next, disp))
-        } else {
-            self.go_to(Some(next))
-        }
+        self.go_to(jump_if_offset(cond, flags, next, disp))
     }
 
     /// Does what the instruction does; `next` is the offset of the one after it.
-    fn execute(&mut self, insn: X86Insn, next: usize) -> X86Step
+    fn execute(&mut self, insn: &X86Insn, next: usize) -> X86Step
         requires { next < 2 ^ 63 }
-        ensures { (result, self.new) ≡ machine.x86_outcome self.old next insn }
+        ensures { (result, self.new) ≡ machine.x86_outcome self.old next insn.now }
     {
-        match insn {
+        match *insn {
             X86Insn::Mov { to, from } => self.put(next, to, self.reg(from)),
             X86Insn::MovImm { to, imm } => self.put(next, to, extended(imm)),
             X86Insn::MovZero { to, imm } => self.put(next, to, u64::from(imm)),
@@ -259,10 +264,19 @@ impl X86Machine {
             X86Insn::MovTwo { to, from } => self.put(next, to, self.reg(from) % 0x1_0000),
             X86Insn::MovFour { to, from } => self.put(next, to, self.reg(from) % 0x1_0000_0000),
             X86Insn::JumpIf { cond, disp } => self.jump_if(next, cond, disp),
-            X86Insn::Jump { disp } => self.go_to(jump_offset(next, disp)),
+            X86Insn::Jump { disp } => self.jump(next, disp),
             X86Insn::Ret => X86Step::Left,
             X86Insn::Nop => self.go_to(Some(next)),
         }
+    }
+
+    /// Does what the instruction at the offset does.
+    fn execute_at(&mut self, insn: &X86Insn) -> X86Step
+        requires { self.old.at + length_of insn.now < 2 ^ 63 }
+        ensures { (result, self.new) ≡ machine.x86_step_at (Some insn.now) self.old }
+    {
+        let next = self.at + insn.length();
+        self.execute(insn, next)
     }
 
     /// Makes one step of the code and returns its result.
@@ -270,7 +284,7 @@ impl X86Machine {
         ensures { (result, self.new) ≡ machine.x86_step code.now self.old }
     {
         match fetch(code, self.at) {
-            Some(insn) => self.execute(insn, self.at + insn.length()),
+            Some(insn) => self.execute_at(&insn),
             None => X86Step::Stuck,
         }
     }
@@ -324,7 +338,20 @@ fn extended(number: i32) -> u64
 /// Returns the offset that a jump leads to, or None if it is before the code.
 fn jump_offset(next: usize, disp: i32) -> Option<usize>
     requires { next < 2 ^ 63 }
-    ensures { result ≡ machine.code_offset (pos next +ℤ disp) }
+    ensures { result ≡ machine.jump_offset next disp }
 {
     next.checked_add_signed(disp as isize)
+}
+
+/// Returns the offset that a conditional jump leads to, or None if it is before the code.
+fn jump_if_offset(cond: X86Cond, flags: Flags, next: usize, disp: i32) -> Option<usize>
+    requires { next < 2 ^ 63 }
+    ensures { result ≡ (if defined.cond_holds cond flags
+        then machine.jump_offset next disp else Some next) }
+{
+    if cond_holds(cond, flags) {
+        jump_offset(next, disp)
+    } else {
+        Some(next)
+    }
 }

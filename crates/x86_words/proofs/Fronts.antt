@@ -90,7 +90,7 @@ signed-fits : (n : ℕ) → FitsSigned w32 (cast_signed w32 n)
 signed-fits n = elim (cases_lt n (2 ^ 31)) [
   | inl h ↦ rw (lt-ltb n (2 ^ 31) h) (record { sfits = h })
   | inr h ↦ rw (le-ltb n (2 ^ 31) h) (record { sfits = omega (arith, h) })
-  ]
+]
 
 module _ (b : List ℕ) where
   -- a form that has its widths if the bytes begin with its own

@@ -93,7 +93,12 @@ impl X86Insn {
             X86Insn::AluImm { op, to, imm } => at_reg_imm(0x81, op.digit(), to, imm),
             X86Insn::AluLoad { op, to, base, disp } => at_memory(op.opcode(), to, base, disp),
             X86Insn::Lea { to, base, disp } => at_memory(0x8d, to, base, disp),
-            X86Insn::LeaScaled { to, base, index, scale } => scaled(to, base, index, scale),
+            X86Insn::LeaScaled {
+                to,
+                base,
+                index,
+                scale,
+            } => scaled(to, base, index, scale),
             X86Insn::ShiftImm { op, to, count } => shift(op.digit(), to, count),
             X86Insn::ShiftCl { op, to } => at_reg(1, 0xd3, op.digit(), to),
             X86Insn::Not { to } => at_reg(1, 0xf7, 2, to),
