@@ -1,11 +1,11 @@
 -- What a step keeps: sixteen words, a memory of words, aligned spans; and the rights.
-use Rattle.std.proofs.Common.{◌≡◌, ℕ, zero, suc, ◌+◌, ◌-◌, ◌*◌, ◌%◌, ◌^◌, ◌<◌, Bool, true, false, cond, List, length, slice_index, slice_set, drop, Option, Some, None, refl, sym, ap, ◌∙◌, arith, ℤ, pos, negsuc, FitsSigned, inl, inr, length-set}
+use Rattle.std.proofs.Common.{◌≡◌, ℕ, zero, suc, ◌+◌, ◌*◌, ◌%◌, ◌^◌, ◌<◌, Bool, true, false, List, length, slice_index, slice_set, drop, Option, Some, None, refl, sym, ap, ◌∙◌, arith, ℤ, pos, negsuc, FitsSigned, inl, inr, length-set, if◌then◌else◌}
 use Rattle.std.specs.Int.{w32}
 use Rattle.std.proofs.lemmas.Bool.{cases_eq, cases_lt, cond_both}
 use Rattle.std.proofs.lemmas.List.{get_or-set_same, get_or-set_other, set_past}
 use Rattle.std.proofs.lemmas.Nat.{mod_below, shr_le}
 use Rattle.word_ops.specs.declared.Op.TheVariants as ops
-use Rattle.word_ops.specs.Memory.{read, write}
+use Rattle.word_ops.specs.Memory.{read}
 use Rattle.word_ops.specs.Rights.{allowed}
 use Rattle.word_ops.proofs.Bounds.{word_of-below, shifted_signed-below}
 use Rattle.word_ops.proofs.Memories.{IsMemory-write, read-below}
@@ -23,8 +23,8 @@ use Rattle.x86_machine.specs.declared.outcome.X86Step.{X86Step}
 use Rattle.x86_machine.specs.declared.outcome.X86Step.TheVariants as steps
 use Rattle.x86_machine.specs.declared.outcome.X86Outcome.{X86Outcome}
 use Rattle.x86_machine.specs.declared.outcome.X86Outcome.TheVariants as outcomes
-use Rattle.x86_machine.specs.Flags.{alu_word, alu_regs, alu_flags, shift_word, cond_holds}
-use Rattle.x86_machine.specs.Machine.{X86, IsX86, extended, with_low_byte, code_offset, puts, loads, stores, operates, shifts, asks, jumps, jump_offset, disp_address, x86_outcome, fetched, x86_step_at, x86_step, x86_ends_with, x86_run}
+use Rattle.x86_machine.specs.Flags.{alu_word, shift_word, cond_holds}
+use Rattle.x86_machine.specs.Machine.{X86, IsX86, extended, with_low_byte, puts, loads, stores, operates, shifts, asks, jumps, jump_offset, disp_address, x86_outcome, fetched, x86_step_at, x86_step, x86_ends_with, x86_run}
 
 -- ---- words
 
@@ -35,7 +35,7 @@ words-set regs to word h w q = elim (cases_eq q to) [
     | inr past ↦ rw (set_past regs to word past) (h q)
   ]
   | inr apart ↦ rw (get_or-set_other regs to q word 0 apart) (h q)
-  ]
+]
 
 extended-below : (z : ℤ) → FitsSigned w32 z → extended z < 2 ^ 64
 extended-below (pos n) h = let b : n < 2 ^ 31 = h.sfits in omega (arith, b)
@@ -157,7 +157,7 @@ module _ (x : X86) (next : ℕ) where
     outcome-keeps (MovByte to from) h = puts-keeps to _ (cut-below (slice_index x.regs from) (2 ^ 8) (omega arith) (omega arith))
     outcome-keeps (MovTwo to from) h = puts-keeps to _ (cut-below (slice_index x.regs from) (2 ^ 16) (omega arith) (omega arith))
     outcome-keeps (MovFour to from) h = puts-keeps to _ (cut-below (slice_index x.regs from) (2 ^ 32) (omega arith) (omega arith))
-    outcome-keeps (JumpIf c disp) h = asks-keeps x.flags _ (λ f. jumps-keeps _)
+    outcome-keeps (JumpIf c disp) h = asks-keeps x.flags _ (λ f. jumps-keeps (if cond_holds c f then jump_offset next disp else Some next))
     outcome-keeps (Jump disp) h = jumps-keeps (jump_offset next disp)
     outcome-keeps Ret h = is
     outcome-keeps Nop h = parts-keep next x.flags

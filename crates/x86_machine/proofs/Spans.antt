@@ -1,5 +1,5 @@
 -- A span of words as a memory.
-use Rattle.std.proofs.Common.{◌≡◌, ℕ, ◌+◌, ◌*◌, ◌<◌, true, cond, List, [], ◌∷◌, length, slice_index, slice_set, Option, sym, ap, ◌∙◌, length-set}
+use Rattle.std.proofs.Common.{◌≡◌, ℕ, ◌+◌, ◌*◌, ◌<◌, true, cond, List, [], ◌∷◌, length, slice_set, Option, sym, ap, ◌∙◌, length-set}
 use Rattle.word_ops.specs.Memory.{Memory, write}
 use Rattle.word_ops.specs.Rights.{allowed}
 use Rattle.reference_machine.specs.Arena.{map_of}

@@ -1,5 +1,5 @@
 -- What is fetched is what stands at the offset.
-use Rattle.std.proofs.Common.{◌≡◌, ℕ, ◌+◌, ◌<◌, ◌≤◌, ◌↔◌, List, [], length, take, drop, Some, refl, sym, ap, ◌∙◌, subst, arith, inl, inr, take-append-drop, length-take-le, drop_of_length-le, drop_at}
+use Rattle.std.proofs.Common.{◌≡◌, ℕ, ◌≤◌, ◌↔◌, List, [], length, take, drop, Some, sym, ap, ◌∙◌, subst, arith, inl, inr, take-append-drop, length-take-le, drop_of_length-le, drop_at}
 use Rattle.std.proofs.lemmas.Bool.{cases_lt}
 use Rattle.x86_words.specs.declared.insn.X86Insn.{X86Insn}
 use Rattle.x86_words.specs.Encoding.{length_of}
@@ -11,12 +11,12 @@ use Rattle.x86_machine.specs.Machine.{StandsAtOffset, fetched}
 inside : (code : List ℕ) (at : ℕ) (i : X86Insn) → BeginsWith (drop at code) i → at ≤ length code
 inside code at i h = elim (cases_lt (length code) at) [
   | inl past ↦
-      let none : drop at code ≡ [] = drop_of_length-le at code (omega (arith, past)) in
+      let none : drop at code ≡ [] = drop_of_length-le code (omega (arith, past)) in
       let fits : length_of i ≤ length (drop at code) = front-within (drop at code) i h in
       let zero : length (drop at code) ≡ 0 = ap length none in
       absurd (omega (arith, fits, zero, length_of-pos i))
   | inr within ↦ within
-  ]
+]
 
 stands-from : (code : List ℕ) (at : ℕ) (i : X86Insn) → fetched code at ≡ Some i → StandsAtOffset code at i
 stands-from code at i e =

@@ -2,7 +2,7 @@
 -- Intel 64 and IA-32 Architectures Software Developer's Manual, volume 1: section 3.4.3.1, "Status Flags", and appendix B, "EFLAGS Condition
 -- Codes"; volume 2: "Operation" and "Flags Affected" of each instruction's page. The adjust and parity flags aren't modelled: no condition
 -- of the subset reads them.
-use Rattle.std.specs.Prelude.{ℕ, ◌+◌, ◌-◌, ◌^◌, Bool, true, false, not, ◌&&◌, ◌||◌, ◌==◌, nat_le, nat_lt, if◌then◌else◌, ℤ, pos, negsuc, ◌+ℤ◌, ◌-ℤ◌, List, slice_index, slice_set}
+use Rattle.std.specs.Prelude.{ℕ, ◌+◌, ◌^◌, Bool, true, false, not, ◌||◌, ◌==◌, nat_le, nat_lt, ℤ, pos, negsuc, ◌+ℤ◌, ◌-ℤ◌, List, slice_index, slice_set}
 use Rattle.word_ops.specs.declared.Op.TheVariants as ops
 use Rattle.word_ops.specs.Words.{word_of, signed}
 use Rattle.x86_words.specs.declared.operators.AluOp.{AluOp}

@@ -27,7 +27,6 @@ pub struct X86Machine {
 
 impl Model for X86Machine {
     ghost use Rattle.x86_machine.specs.Machine.{X86};
-
     ghost use Rattle.x86_machine.specs.States.{x86_code};
 
     ghost Value = { X86 };
@@ -251,9 +250,12 @@ impl X86Machine {
                 self.operate_at(next, op, to, self.address(base, disp))
             }
             X86Insn::Lea { to, base, disp } => self.put(next, to, self.address(base, disp)),
-            X86Insn::LeaScaled { to, base, index, scale } => {
-                self.put(next, to, self.scaled(base, index, scale))
-            }
+            X86Insn::LeaScaled {
+                to,
+                base,
+                index,
+                scale,
+            } => { self.put(next, to, self.scaled(base, index, scale)) }
             X86Insn::ShiftImm { op, to, count } => self.shift(next, op, to, u64::from(count)),
             X86Insn::ShiftCl { op, to } => self.shift(next, op, to, self.regs[1] % 64),
             X86Insn::Not { to } => self.put(next, to, u64::MAX - self.reg(to)),

@@ -1,4 +1,4 @@
-use Rattle.std.proofs.Common.{◌≡◌, ℕ, ◌+◌, ◌*◌, ◌<◌, true, List, [], ◌∷◌, length, subst, arith}
+use Rattle.std.proofs.Common.{◌≡◌, ℕ, true, List, [], ◌∷◌, length, subst, arith}
 use Rattle.word_ops.specs.Rights.{allowed}
 use Rattle.x86_machine.proofs.Spans.{stored}
 use Rattle.x86_machine.proofs.machine.X86Machine.store.Goals as goal
