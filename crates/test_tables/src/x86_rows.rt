@@ -13,16 +13,16 @@ const MEMORY: u64 = 1 << 40;
 const MOST: usize = 8;
 
 /// Checks whether the bytes are the instruction's, and no more.
-fn has_bytes(alloc: Global, insn: X86Insn, bytes: &[u8]) -> Result<bool, AllocError> {
+fn has_bytes(alloc: Global, insn: &X86Insn, bytes: &[u8]) -> Result<bool, AllocError> {
     let mut own = Vec::new(alloc);
     insn.encode(&mut own)?;
     Ok(own.as_slice() == bytes && insn.length() == bytes.len())
 }
 
 /// An instruction as text, if the bytes are its own.
-fn own_text(alloc: Global, insn: X86Insn, bytes: &[u8]) -> Result<String, AllocError> {
+fn own_text(alloc: Global, insn: &X86Insn, bytes: &[u8]) -> Result<String, AllocError> {
     if has_bytes(alloc, insn, bytes)? {
-        insn_text(alloc, insn)
+        insn_text(alloc, *insn)
     } else {
         format!(in alloc; "other bytes")
     }
@@ -31,7 +31,7 @@ fn own_text(alloc: Global, insn: X86Insn, bytes: &[u8]) -> Result<String, AllocE
 /// What bytes are as an instruction.
 fn bytes_text(alloc: Global, bytes: &[u8]) -> Result<String, AllocError> {
     match decode(bytes) {
-        Some(insn) => own_text(alloc, insn, bytes),
+        Some(insn) => own_text(alloc, &insn, bytes),
         None => format!(in alloc; "no instruction"),
     }
 }
@@ -80,7 +80,11 @@ fn number_of(flags: Flags) -> u32 {
 }
 
 /// The registers that aren't the words before, or `-`.
-fn changed_text(alloc: Global, before: &[u64; 16], after: &[u64; 16]) -> Result<String, AllocError> {
+fn changed_text(
+    alloc: Global,
+    before: &[u64; 16],
+    after: &[u64; 16],
+) -> Result<String, AllocError> {
     let mut text = String::new(alloc);
     for number in 0..16 {
         let word = after[number];
@@ -99,7 +103,8 @@ fn changed_text(alloc: Global, before: &[u64; 16], after: &[u64; 16]) -> Result<
 fn quadwords_text(alloc: Global, machine: &X86Machine, count: usize) -> Result<String, AllocError> {
     let mut text = String::new(alloc);
     for place in 0..count {
-        let word = machine.word_at(MEMORY + 8 * place as u64).unwrap_or(0);
+        let addr = MEMORY.wrapping_add((place as u64).wrapping_mul(8));
+        let word = machine.word_at(addr).unwrap_or(0);
         let quadword = format!(in alloc; " {word:x}")?;
         text.push_str(quadword.as_str())?;
     }
@@ -163,7 +168,10 @@ fn registers_of(words: &[u64]) -> [u64; 16] {
 /// What a step of the code comes to, with registers and quadwords as text.
 fn code_text(alloc: Global, code: &[u8], line: &str) -> Result<String, AllocError> {
     let flags = field(line, 2).parse::<u8>().unwrap_or(0);
-    match (words_of(alloc, field(line, 1))?, words_of(alloc, field(line, 3))?) {
+    match (
+        words_of(alloc, field(line, 1))?,
+        words_of(alloc, field(line, 3))?,
+    ) {
         (Some(regs), Some(words)) => step_text(alloc, code, registers_of(&regs), flags, words),
         _ => format!(in alloc; "no words"),
     }

@@ -1,6 +1,6 @@
 -- The instruction that the definition finds at the front of bytes is the one that they begin with.
-use Rattle.std.proofs.Common.{◌≡◌, ℕ, ◌+◌, ◌*◌, ◌/◌, ◌%◌, ◌^◌, ◌<◌, ◌≤◌, Bool, true, false, cond, eqb, nat_eq, ◌&&◌, ◌↔◌, Decides, List, [], ◌∷◌, ◌++◌, length, take, drop, slice_index, Option, Some, None, IfSome, option_map, refl, sym, ap, ◌∙◌, subst, arith, FitsSigned, inl, inr, length-append}
-use Rattle.std.specs.Int.{to_le_bytes, cast_signed, w32, w64}
+use Rattle.std.proofs.Common.{◌≡◌, ℕ, ◌+◌, ◌/◌, ◌%◌, ◌^◌, ◌<◌, ◌≤◌, Bool, true, false, cond, eqb, nat_eq, ◌↔◌, List, ◌++◌, length, drop, slice_index, Option, Some, None, IfSome, option_map, refl, sym, ap, ◌∙◌, subst, arith, FitsSigned, inl, inr, length-append}
+use Rattle.std.specs.Int.{cast_signed, w32}
 use Rattle.std.specs.List.{starts_with}
 use Rattle.std.proofs.lemmas.Bool.{cond_both, and_parts, cases_lt, lt-ltb, le-ltb}
 use Rattle.std.proofs.lemmas.Bool.Decides.{Decides-eqb}
@@ -9,8 +9,8 @@ use Rattle.std.proofs.lemmas.Slice.Eq.{starts_is}
 use Rattle.x86_words.specs.declared.insn.X86Insn.{X86Insn}
 use Rattle.x86_words.specs.declared.insn.X86Insn.TheVariants.{Mov, MovImm, MovZero, MovAbs, Load, Store, Alu, AluImm, AluLoad, Lea, LeaScaled, ShiftImm, ShiftCl, Not, Test, TestImm, Set, MovByte, MovTwo, MovFour, JumpIf, Jump, Ret, Nop}
 use Rattle.x86_words.specs.Codes.{alu_of_opcode, alu_of_digit, shift_of_digit, cond_of_code}
-use Rattle.x86_words.specs.Encoding.{bytes_of, length_of, has_operands, FitsFields, IsX86Insn, EncodesX86}
-use Rattle.x86_words.specs.Decoding.{BeginsWith, reg_r, reg_x, reg_b, four_at, signed_at, eight_at, mov_form, alu_form, lea_form, not_form, wide_form, narrow_form, plain_form, form_at_front, is_own, if_own, insn_at_front}
+use Rattle.x86_words.specs.Encoding.{bytes_of, length_of, has_operands, FitsFields}
+use Rattle.x86_words.specs.Decoding.{BeginsWith, reg_r, reg_x, reg_b, four_at, signed_at, eight_at, wide_form, narrow_form, plain_form, form_at_front, is_own, if_own, insn_at_front}
 use Rattle.x86_words.proofs.Reading.{reading}
 
 -- ---- one length a form

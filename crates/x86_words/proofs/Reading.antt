@@ -1,6 +1,6 @@
 -- What is written is read: the form at the front of an instruction's bytes is the instruction.
-use Rattle.std.proofs.Common.{◌≡◌, ℕ, ◌+◌, ◌*◌, ◌/◌, ◌%◌, ◌^◌, ◌<◌, List, [], ◌∷◌, ◌++◌, length, Option, Some, option_map, refl, ap, ◌∙◌, arith, ℤ, pos, negsuc, FitsSigned}
-use Rattle.std.specs.Int.{byte_at, to_le_bytes, from_le_bytes, cast_signed, cast_unsigned, w32, w64}
+use Rattle.std.proofs.Common.{◌≡◌, ℕ, ◌+◌, ◌/◌, ◌%◌, ◌^◌, ◌<◌, List, ◌∷◌, ◌++◌, Some, option_map, refl, ap, ◌∙◌, arith, ℤ, pos, negsuc, FitsSigned}
+use Rattle.std.specs.Int.{byte_at, from_le_bytes, cast_signed, cast_unsigned, w32}
 use Rattle.std.proofs.lemmas.Int.{to_z-of_z}
 use Rattle.std.proofs.lemmas.Nat.{from_le_bytes-to_le_bytes_4, from_le_bytes-to_le_bytes_8}
 use Rattle.x86_words.specs.declared.operators.AluOp.{AluOp}
@@ -14,8 +14,8 @@ use Rattle.x86_words.specs.declared.operators.Scale.TheVariants as scale
 use Rattle.x86_words.specs.declared.insn.X86Insn.{X86Insn}
 use Rattle.x86_words.specs.declared.insn.X86Insn.TheVariants.{Mov, MovImm, MovZero, MovAbs, Load, Store, Alu, AluImm, AluLoad, Lea, LeaScaled, ShiftImm, ShiftCl, Not, Test, TestImm, Set, MovByte, MovTwo, MovFour, JumpIf, Jump, Ret, Nop}
 use Rattle.x86_words.specs.Codes.{alu_opcode, alu_digit, shift_digit, cond_code, scale_bits, alu_of_digit, shift_of_digit, cond_of_code, scale_of_bits}
-use Rattle.x86_words.specs.Encoding.{rex, modrm, four_bytes, bytes_of, length_of, FitsFields}
-use Rattle.x86_words.specs.Decoding.{reg_r, reg_x, reg_b, four_at, signed_at, eight_at, mov_form, alu_form, lea_form, not_form, alu_imm_form, shift_imm_form, shift_cl_form, set_form, jump_if_form, wide_form, narrow_form, plain_form, form_at_front}
+use Rattle.x86_words.specs.Encoding.{rex, modrm, four_bytes, bytes_of, FitsFields}
+use Rattle.x86_words.specs.Decoding.{reg_r, reg_x, reg_b, four_at, signed_at, eight_at, alu_form, not_form, alu_imm_form, shift_imm_form, shift_cl_form, wide_form, narrow_form, form_at_front}
 
 -- ---- fields
 
