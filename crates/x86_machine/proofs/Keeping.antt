@@ -188,7 +188,8 @@ step-keeps code x is = kept code x is (fetched code x.at) refl
 
 -- ---- runs one behind the other
 
-moved-on : (p : X86Step × X86) (on : X86Outcome × X86) (u : X86) → x86_ends_with p.0 p.1 on ≡ (outcomes.OutOfSteps, u) → (p.0 ≡ steps.Moved) × (on ≡ (outcomes.OutOfSteps, u))
+moved-on : (p : X86Step × X86) (on : X86Outcome × X86) (u : X86) → x86_ends_with p.0 p.1 on ≡ (outcomes.OutOfSteps, u) →
+    (p.0 ≡ steps.Moved) × (on ≡ (outcomes.OutOfSteps, u))
 moved-on (steps.Moved, t) on u e = (refl, e)
 moved-on (steps.Left, t) on u e = let wrong : outcomes.Left ≡ outcomes.OutOfSteps = ap (λ q. q.0) e in (cc, cc)
 moved-on (steps.Stuck, t) on u e = let wrong : outcomes.Stuck ≡ outcomes.OutOfSteps = ap (λ q. q.0) e in (cc, cc)

@@ -11,10 +11,14 @@ use Rattle.x86_machine.specs.Machine.{X86, stores}
 use Rattle.x86_machine.specs.States.{span_state}
 
 -- a word of the span is written as the step stores it
-pub stored : (at next : ℕ) (regs : List ℕ) (flags : Option Flags) (base : ℕ) (words : List ℕ) (place addr word : ℕ) → place < length words → addr ≡ base + 8 * place →
-    allowed ((base, length words) ∷ []) addr ≡ true → (steps.Moved, span_state next regs flags base (slice_set words place word)) ≡ stores (span_state at regs flags base words) next addr word
+pub stored : (at next : ℕ) (regs : List ℕ) (flags : Option Flags) (base : ℕ) (words : List ℕ) (place addr word : ℕ) → place < length words →
+    addr ≡ base + 8 * place →
+    allowed ((base, length words) ∷ []) addr ≡ true →
+    (steps.Moved, span_state next regs flags base (slice_set words place word)) ≡ stores (span_state at regs flags base words) next addr word
 stored at next regs flags base words place addr word within e may =
-    let after : Memory → ℕ → X86Step × X86 = λ m n. (steps.Moved, record { at = next; regs = regs; flags = flags; memory = m; rights = record { reads = (base, n) ∷ []; writes = (base, n) ∷ [] } }) in
-    let written : map_of base (slice_set words place word) ≡ write (map_of base words) addr word = map_of-set words base place word within ∙ ap (λ a. write (map_of base words) a word) (sym e) in
+    let after : Memory → ℕ → X86Step × X86 =
+    λ m n. (steps.Moved, record { at = next; regs = regs; flags = flags; memory = m; rights = record { reads = (base, n) ∷ []; writes = (base, n) ∷ [] } }) in
+    let written : map_of base (slice_set words place word) ≡ write (map_of base words) addr word =
+    map_of-set words base place word within ∙ ap (λ a. write (map_of base words) a word) (sym e) in
     ap (λ m. after m (length (slice_set words place word))) written ∙ ap (after (write (map_of base words) addr word)) (length-set words place word)
     ∙ sym (ap (λ b. cond b (after (write (map_of base words) addr word) (length words)) (steps.Stuck, span_state at regs flags base words)) may)

@@ -2,9 +2,10 @@
 -- Intel 64 and IA-32 Architectures Software Developer's Manual, volume 1: section 3.4.3.1, "Status Flags", and appendix B, "EFLAGS Condition
 -- Codes"; volume 2: "Operation" and "Flags Affected" of each instruction's page. The adjust and parity flags aren't modelled: no condition
 -- of the subset reads them.
-use Rattle.std.specs.Prelude.{ℕ, ◌+◌, ◌^◌, Bool, true, false, not, ◌||◌, ◌==◌, nat_le, nat_lt, ℤ, pos, negsuc, ◌+ℤ◌, ◌-ℤ◌, List, slice_index, slice_set}
+use Rattle.std.specs.Prelude.{◌≡◌, ℕ, ◌+◌, ◌^◌, Bool, true, false, not, ◌||◌, ◌==◌, nat_le, nat_lt, ℤ, pos, negsuc, ◌+ℤ◌, ◌-ℤ◌, List, slice_index, slice_set}
 use Rattle.word_ops.specs.declared.Op.TheVariants as ops
-use Rattle.word_ops.specs.Words.{word_of, signed}
+use Rattle.word_ops.specs.declared.Rel.TheVariants.{Eq, Ult, Ule, Slt, Sle}
+use Rattle.word_ops.specs.Words.{word_of, signed, test_of}
 use Rattle.x86_words.specs.declared.operators.AluOp.{AluOp}
 use Rattle.x86_words.specs.declared.operators.AluOp.TheVariants.{Add, Or, And, Sub, Xor, Cmp}
 use Rattle.x86_words.specs.declared.operators.ShiftOp.{ShiftOp}
@@ -74,3 +75,11 @@ cond_holds Less f = differ f.sign f.overflow
 cond_holds GreaterOrEqual f = not (differ f.sign f.overflow)
 cond_holds LessOrEqual f = f.zero || differ f.sign f.overflow
 cond_holds Greater f = not (f.zero || differ f.sign f.overflow)
+
+-- After a compare of two words the conditions say which relations hold of them.
+pub record AfterCmp (a b : ℕ) : Type 0 where
+  pub equal : cond_holds Equal (alu_flags Cmp a b) ≡ test_of Eq a b
+  pub below : cond_holds Below (alu_flags Cmp a b) ≡ test_of Ult a b
+  pub below_or_equal : cond_holds BelowOrEqual (alu_flags Cmp a b) ≡ test_of Ule a b
+  pub less : cond_holds Less (alu_flags Cmp a b) ≡ test_of Slt a b
+  pub less_or_equal : cond_holds LessOrEqual (alu_flags Cmp a b) ≡ test_of Sle a b

@@ -1,9 +1,15 @@
 //! Theorems about the definitions, with nothing to run.
 
-ghost use Rattle.std.specs.Prelude.{◌≡◌, ℕ, ◌+◌, ◌↔◌, List, Some};
+ghost use Rattle.std.specs.Prelude.{◌≡◌, ℕ, ◌+◌, ◌^◌, ◌<◌, ◌↔◌, List, Some};
 ghost use Rattle.x86_words.specs.declared.insn.X86Insn.{X86Insn};
 ghost use Rattle.x86_machine.specs.declared.outcome.X86Outcome.TheVariants.{OutOfSteps};
+ghost use Rattle.x86_machine.specs.Flags.{AfterCmp};
 ghost use Rattle.x86_machine.specs.Machine.{X86, IsX86, StandsAtOffset, fetched, x86_step, x86_run};
+
+/// Proves that conditions after a compare are the relations between the two words.
+pub fn flag_laws()
+    ensures compares { (a b : ℕ) → a < 2 ^ 64 → b < 2 ^ 64 → AfterCmp a b }
+{}
 
 /// Proves that a step takes the instruction that stands at the offset, if there is one, and what
 /// steps and runs keep.

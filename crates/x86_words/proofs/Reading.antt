@@ -158,7 +158,8 @@ mov-memory p m b h = rw h refl
 alu-reg : (op : AluOp) (p m : ℕ) (b : List ℕ) → m / 64 ≡ 3 → wide_form p (alu_opcode op) m b ≡ Some (Alu op (reg_r p (m / 8)) (reg_b p m))
 alu-reg op p m b h = alu-form op p m b ∙ ap (λ z. Some (alu_form z (reg_r p (m / 8)) (reg_b p m) (signed_at b 3) op)) h
 
-alu-memory : (op : AluOp) (p m : ℕ) (b : List ℕ) → m / 64 ≡ 2 → wide_form p (alu_opcode op) m b ≡ Some (AluLoad op (reg_r p (m / 8)) (reg_b p m) (signed_at b 3))
+alu-memory : (op : AluOp) (p m : ℕ) (b : List ℕ) → m / 64 ≡ 2 →
+    wide_form p (alu_opcode op) m b ≡ Some (AluLoad op (reg_r p (m / 8)) (reg_b p m) (signed_at b 3))
 alu-memory op p m b h = alu-form op p m b ∙ ap (λ z. Some (alu_form z (reg_r p (m / 8)) (reg_b p m) (signed_at b 3) op)) h
 
 lea-memory : (p m : ℕ) (b : List ℕ) → m / 64 ≡ 2 → wide_form p 0x8D m b ≡ Some (Lea (reg_r p (m / 8)) (reg_b p m) (signed_at b 3))
@@ -189,25 +190,30 @@ module _ (rest : List ℕ) where
 
   pub reading : (i : X86Insn) → FitsFields i → IsRead i
   reading (Mov to from) h =
-      wide-at (rex 1 from 0 to) 0x89 (modrm 3 from to) rest (prefix-is 1 from 0 to h.1 zero-reg h.0) ∙ mov-reg (rex 1 from 0 to) (modrm 3 from to) (bytes_of (Mov to from) ++ rest) (mode-is 3 from to)
+      wide-at (rex 1 from 0 to) 0x89 (modrm 3 from to) rest (prefix-is 1 from 0 to h.1 zero-reg h.0)
+      ∙ mov-reg (rex 1 from 0 to) (modrm 3 from to) (bytes_of (Mov to from) ++ rest) (mode-is 3 from to)
       ∙ two Mov _ _ to from (rm-is 1 from 0 3 from to h.1 zero-reg h.0) (reg-is 1 0 to 3 from to h.1 zero-reg h.0)
   reading (MovImm to imm) h =
       wide-at (rex 1 0 0 to) 0xC7 (modrm 3 0 to) (four_bytes imm ++ rest) (prefix-is 1 0 0 to zero-reg zero-reg h.0)
       ∙ with_number MovImm _ to _ imm (rm-is 1 0 0 3 0 to zero-reg zero-reg h.0) (number-is imm h.1)
   reading (MovZero to imm) h =
-      narrow-at (rex 0 0 0 to) (0xB8 + to % 8) (byte_at 0 imm) (byte_at 1 imm) (byte_at 2 imm ∷ byte_at 3 imm ∷ rest) (prefix-is 0 0 0 to zero-reg zero-reg h.0) ∙ zero-form (rex 0 0 0 to) (0xB8 + to % 8) (byte_at 0 imm) (byte_at 1 imm) (bytes_of (MovZero to imm) ++ rest) (opcode-is to)
+      narrow-at (rex 0 0 0 to) (0xB8 + to % 8) (byte_at 0 imm) (byte_at 1 imm) (byte_at 2 imm ∷ byte_at 3 imm ∷ rest) (prefix-is 0 0 0 to zero-reg zero-reg h.0)
+      ∙ zero-form (rex 0 0 0 to) (0xB8 + to % 8) (byte_at 0 imm) (byte_at 1 imm) (bytes_of (MovZero to imm) ++ rest) (opcode-is to)
       ∙ two MovZero _ _ to imm (low-is 0 to h.0) (from_le_bytes-to_le_bytes_4 imm h.1)
   reading (MovAbs to imm) h =
-      wide-at (rex 1 0 0 to) (0xB8 + to % 8) (byte_at 0 imm) (byte_at 1 imm ∷ byte_at 2 imm ∷ byte_at 3 imm ∷ byte_at 4 imm ∷ byte_at 5 imm ∷ byte_at 6 imm ∷ byte_at 7 imm ∷ rest) (prefix-is 1 0 0 to zero-reg zero-reg h.0) ∙ abs-form (rex 1 0 0 to) (0xB8 + to % 8) (byte_at 0 imm) (bytes_of (MovAbs to imm) ++ rest) (opcode-is to)
+      wide-at (rex 1 0 0 to) (0xB8 + to % 8) (byte_at 0 imm) (byte_at 1 imm ∷ byte_at 2 imm ∷ byte_at 3 imm ∷ byte_at 4 imm ∷ byte_at 5 imm ∷ byte_at 6 imm ∷ byte_at 7 imm ∷ rest) (prefix-is 1 0 0 to zero-reg zero-reg h.0)
+      ∙ abs-form (rex 1 0 0 to) (0xB8 + to % 8) (byte_at 0 imm) (bytes_of (MovAbs to imm) ++ rest) (opcode-is to)
       ∙ two MovAbs _ _ to imm (low-is 1 to h.0) (from_le_bytes-to_le_bytes_8 imm h.1)
   reading (Load to base disp) h =
       wide-at (rex 1 to 0 base) 0x8B (modrm 2 to base) (four_bytes disp ++ rest) (prefix-is 1 to 0 base h.0 zero-reg h.1)
       ∙ three Load _ _ to base _ disp (reg-is 1 0 base 2 to base h.0 zero-reg h.1) (rm-is 1 to 0 2 to base h.0 zero-reg h.1) (number-is disp h.2)
   reading (Store base disp from) h =
-      wide-at (rex 1 from 0 base) 0x89 (modrm 2 from base) (four_bytes disp ++ rest) (prefix-is 1 from 0 base h.2 zero-reg h.0) ∙ mov-memory (rex 1 from 0 base) (modrm 2 from base) (bytes_of (Store base disp from) ++ rest) (mode-is 2 from base)
+      wide-at (rex 1 from 0 base) 0x89 (modrm 2 from base) (four_bytes disp ++ rest) (prefix-is 1 from 0 base h.2 zero-reg h.0)
+      ∙ mov-memory (rex 1 from 0 base) (modrm 2 from base) (bytes_of (Store base disp from) ++ rest) (mode-is 2 from base)
       ∙ three (λ x y z. Store x z y) _ _ base from _ disp (rm-is 1 from 0 2 from base h.2 zero-reg h.0) (reg-is 1 0 base 2 from base h.2 zero-reg h.0) (number-is disp h.1)
   reading (Alu op to from) h =
-      wide-at (rex 1 to 0 from) (alu_opcode op) (modrm 3 to from) rest (prefix-is 1 to 0 from h.0 zero-reg h.1) ∙ alu-reg op (rex 1 to 0 from) (modrm 3 to from) (bytes_of (Alu op to from) ++ rest) (mode-is 3 to from)
+      wide-at (rex 1 to 0 from) (alu_opcode op) (modrm 3 to from) rest (prefix-is 1 to 0 from h.0 zero-reg h.1)
+      ∙ alu-reg op (rex 1 to 0 from) (modrm 3 to from) (bytes_of (Alu op to from) ++ rest) (mode-is 3 to from)
       ∙ two (Alu op) _ _ to from (reg-is 1 0 from 3 to from h.0 zero-reg h.1) (rm-is 1 to 0 3 to from h.0 zero-reg h.1)
   reading (AluImm op to imm) h =
       let d = alu_digit op in
@@ -219,10 +225,12 @@ module _ (rest : List ℕ) where
       ∙ ap (option_map (λ o. AluImm o (reg_b p m) (signed_at (bytes_of (AluImm op to imm) ++ rest) 3))) (alu-found op)
       ∙ with_number (AluImm op) _ to _ imm (rm-is 1 d 0 3 d to (digit-reg d below) zero-reg h.0) (number-is imm h.1)
   reading (AluLoad op to base disp) h =
-      wide-at (rex 1 to 0 base) (alu_opcode op) (modrm 2 to base) (four_bytes disp ++ rest) (prefix-is 1 to 0 base h.0 zero-reg h.1) ∙ alu-memory op (rex 1 to 0 base) (modrm 2 to base) (bytes_of (AluLoad op to base disp) ++ rest) (mode-is 2 to base)
+      wide-at (rex 1 to 0 base) (alu_opcode op) (modrm 2 to base) (four_bytes disp ++ rest) (prefix-is 1 to 0 base h.0 zero-reg h.1)
+      ∙ alu-memory op (rex 1 to 0 base) (modrm 2 to base) (bytes_of (AluLoad op to base disp) ++ rest) (mode-is 2 to base)
       ∙ three (AluLoad op) _ _ to base _ disp (reg-is 1 0 base 2 to base h.0 zero-reg h.1) (rm-is 1 to 0 2 to base h.0 zero-reg h.1) (number-is disp h.2)
   reading (Lea to base disp) h =
-      wide-at (rex 1 to 0 base) 0x8D (modrm 2 to base) (four_bytes disp ++ rest) (prefix-is 1 to 0 base h.0 zero-reg h.1) ∙ lea-memory (rex 1 to 0 base) (modrm 2 to base) (bytes_of (Lea to base disp) ++ rest) (mode-is 2 to base)
+      wide-at (rex 1 to 0 base) 0x8D (modrm 2 to base) (four_bytes disp ++ rest) (prefix-is 1 to 0 base h.0 zero-reg h.1)
+      ∙ lea-memory (rex 1 to 0 base) (modrm 2 to base) (bytes_of (Lea to base disp) ++ rest) (mode-is 2 to base)
       ∙ three Lea _ _ to base _ disp (reg-is 1 0 base 2 to base h.0 zero-reg h.1) (rm-is 1 to 0 2 to base h.0 zero-reg h.1) (number-is disp h.2)
   reading (LeaScaled to base index s) h =
       let p = rex 1 to index base in
@@ -230,7 +238,8 @@ module _ (rest : List ℕ) where
       wide-at p 0x8D (modrm 1 to 4) (sib ∷ 0 ∷ rest) (prefix-is 1 to index base h.0 h.2 h.1) ∙ lea-scaled p (modrm 1 to 4) sib (0 ∷ rest) (mode-is 1 to 4)
       ∙ two (λ x y. LeaScaled x y (reg_x p (sib / 8)) (scale_of_bits (sib / 64))) _ _ to base (reg-is 1 index base 1 to 4 h.0 h.2 h.1) (rm-is 1 to index (scale_bits s) index base h.0 h.2 h.1)
       ∙ one (λ x. LeaScaled to base x (scale_of_bits (sib / 64))) _ index (index-is 1 to base (scale_bits s) index base h.0 h.2 h.1)
-      ∙ ap (λ x. Some (LeaScaled to base index (scale_of_bits x))) (mode-is (scale_bits s) index base) ∙ ap (λ x. Some (LeaScaled to base index x)) (scale-found s)
+      ∙ ap (λ x. Some (LeaScaled to base index (scale_of_bits x))) (mode-is (scale_bits s) index base)
+      ∙ ap (λ x. Some (LeaScaled to base index x)) (scale-found s)
   reading (ShiftImm op to count) h =
       let d = shift_digit op in
       let below = shift_digit-below op in
