@@ -1,4 +1,4 @@
-//! Test runner for code words, runs, policies, formula texts, BPF programs and containers.
+//! Test runner for code words, runs, policies, formula texts, BPF programs, containers and x86-64.
 //!
 //! Each file of `data` is a table. An empty line of it, or one that begins with `#`, has no row
 //! (test case). The fields of the other lines are separated by tabs, except in the files whose
@@ -56,6 +56,14 @@
 //! where the program is from, its bytes, the packets, the values and what it is for. Each packet is
 //! a row.
 //!
+//! `x86_bytes.tsv`, on x86-64 instructions: bytes, and their text as GNU objdump prints it, with a
+//! jump's displacement behind `.+`. The row is that the bytes are decoded as this instruction, and
+//! that it is encoded as these bytes.
+//!
+//! `x86_steps.tsv`, on what an x86-64 instruction does: its bytes; the registers, the flags and the
+//! quadwords from 2^40 on before it; and, on a processor after it, the offset, the registers that
+//! changed, the flags and the quadwords, or `left`. `bench/x86_rows` makes both tables.
+//!
 //! `containers.txt`, on containers: a question, `=` and the expected answer. The bytes are pieces
 //! separated by blanks: `PCCA`; `#` before bytes in hexadecimal; a group of fields separated by
 //! commas, each a number, little-endian; `N*GROUP`, a group N times, in which a field `A+B` is A
@@ -82,6 +90,8 @@ mod questions;
 mod runs;
 mod texts;
 mod words;
+mod x86_rows;
+mod x86_text;
 
 use anyhow::Result;
 use bytes::{field, wanted};
@@ -100,10 +110,12 @@ enum Table {
     Questions,
     Programs,
     Containers,
+    X86Bytes,
+    X86Steps,
 }
 
 /// Every table.
-const TABLES: [Table; 9] = [
+const TABLES: [Table; 11] = [
     Table::Words,
     Table::Runs,
     Table::Files,
@@ -113,6 +125,8 @@ const TABLES: [Table; 9] = [
     Table::Questions,
     Table::Programs,
     Table::Containers,
+    Table::X86Bytes,
+    Table::X86Steps,
 ];
 
 impl Table {
@@ -128,6 +142,8 @@ impl Table {
             Table::Questions => "rows.txt",
             Table::Programs => "programs.tsv",
             Table::Containers => "containers.txt",
+            Table::X86Bytes => "x86_bytes.tsv",
+            Table::X86Steps => "x86_steps.tsv",
         }
     }
 
@@ -140,6 +156,7 @@ impl Table {
             Table::BuiltIn => policies::built_in_rows(line),
             Table::Programs => programs::rows(line),
             Table::Texts | Table::Codes | Table::Questions | Table::Containers => 1,
+            Table::X86Bytes | Table::X86Steps => 1,
         }
     }
 
@@ -152,6 +169,8 @@ impl Table {
             Table::BuiltIn => field(line, row.saturating_add(1)),
             Table::Programs => programs::want(line, row),
             Table::Texts | Table::Codes | Table::Questions | Table::Containers => wanted(line),
+            Table::X86Bytes => field(line, 1),
+            Table::X86Steps => field(line, 4),
         }
     }
 
@@ -167,6 +186,8 @@ impl Table {
             Table::Questions => questions::answer(alloc, line),
             Table::Programs => programs::answer(alloc, line, row),
             Table::Containers => containers::answer(alloc, line),
+            Table::X86Bytes => x86_rows::bytes_answer(alloc, line),
+            Table::X86Steps => x86_rows::steps_answer(alloc, line),
         }
     }
 }

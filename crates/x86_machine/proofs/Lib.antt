@@ -1,0 +1,4 @@
+pub mod Spans
+pub mod Standing
+pub mod Keeping
+pub mod Orders

@@ -1,0 +1,3 @@
+-- Words of the invariant of `X86Machine` and of its private functions.
+pub mod Fields
+pub mod Places

@@ -1,0 +1,4 @@
+pub mod Flags
+pub mod Machine
+pub mod States
+pub mod Inside

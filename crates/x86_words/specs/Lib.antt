@@ -1,0 +1,3 @@
+pub mod Codes
+pub mod Encoding
+pub mod Decoding
