@@ -56,16 +56,16 @@ flaw_line (flaw.Length line) = policy_length_line line
 flaw_line (flaw.Form line position what) = policy_form_line line position (text_flaw_name what)
 
 -- the line that `pcc check` prints for the verdict
-abbrev pub verdict_line : Verdict → List ℕ
-verdict_line verdict.Accepted = accepted_line
-verdict_line (verdict.Refused refusal) = refusal_line refusal
-verdict_line verdict.UnknownPolicy = unknown_policy_line
-verdict_line (verdict.BadPolicy flaw) = flaw_line flaw
+abbrev pub check_line : Verdict → List ℕ
+check_line verdict.Accepted = accepted_line
+check_line (verdict.Refused refusal) = refusal_line refusal
+check_line verdict.UnknownPolicy = unknown_policy_line
+check_line (verdict.BadPolicy flaw) = flaw_line flaw
 
--- a line without its last byte, the LF
-abbrev pub without_lf : List ℕ → List ℕ
-without_lf line = take (length line - 1) line
+-- the bytes without the last one, which is the LF of a line
+abbrev pub without_last : List ℕ → List ℕ
+without_last bytes = take (length bytes - 1) bytes
 
 -- the line of the verdict, without LF
 abbrev pub verdict_text : Verdict → List ℕ
-verdict_text verdict = without_lf (verdict_line verdict)
+verdict_text verdict = without_last (check_line verdict)

@@ -1,7 +1,7 @@
 //! The line of a verdict, in the caller's buffer.
 
 ghost use Rattle.std.specs.Prelude.{◌≡◌, IfOk};
-ghost use Rattle.pcc_c.specs.Verdicts.{verdict_line};
+ghost use Rattle.pcc_c.specs.Verdicts.{check_line};
 ghost use Rattle.pcc_c.specs.Buffers.{TellsVerdict, Explains};
 ghost use Rattle.pcc_c.specs.Checks.{SafeIfDone};
 
@@ -18,7 +18,7 @@ const ROOM: u32 = 128;
 
 /// Returns the line of the verdict. Errors: out of memory.
 fn line_of(alloc: Global, verdict: Verdict) -> Result<MemSink, Exhausted>
-    ensures { IfOk result (λ sink. sink.bytes ≡ verdict_line verdict) }
+    ensures { IfOk result (λ sink. sink.bytes ≡ check_line verdict) }
 {
     let mut sink = MemSink::new(alloc, ROOM, Vec::new(alloc))?;
     match verdict.print(&mut sink) {

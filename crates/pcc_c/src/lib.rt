@@ -12,3 +12,7 @@ mod checking;
 mod explaining;
 mod statuses;
 mod verdict;
+
+pub use abi::pcc_abi;
+pub use checking::pcc_check;
+pub use explaining::pcc_explain;

@@ -3,7 +3,7 @@
 ghost use Rattle.std.specs.Prelude.{◌≡◌};
 ghost use Rattle.file_port.specs.Sink.{Puts};
 ghost use Rattle.pcc_c.specs.Statuses.{verdict_status};
-ghost use Rattle.pcc_c.specs.Verdicts.{verdict_line, flaw_line, flaw_verdict};
+ghost use Rattle.pcc_c.specs.Verdicts.{check_line, flaw_line, flaw_verdict};
 
 use crate::statuses::{BAD_POLICY, DONE, UNKNOWN_POLICY, refusal_number};
 use file_port::{Put, Sink};
@@ -71,7 +71,7 @@ impl Verdict {
 
     /// Prints the line of the verdict, as `pcc check` does.
     pub fn print<S: Sink>(self, out: &mut S) -> Put
-        ensures { Puts (verdict_line self) (S.state out.old) (S.state out.new) result }
+        ensures { Puts (check_line self) (S.state out.old) (S.state out.new) result }
     {
         match self {
             Verdict::Accepted => print_accepted(out),
