@@ -57,7 +57,8 @@ uint32_t pcc_check(const uint8_t *policy, size_t policy_length, const uint8_t *c
 
 /* Checks the container as pcc_check does, and puts the line that `pcc check` prints, without LF, at the front of `out`.
  * Sets *written to the length of the line, and returns what pcc_check would, or PCC_NO_ROOM if `room` is less. On
- * PCC_NO_MEMORY and PCC_TOO_MANY_RESULTS, *written is 0 and `out` is unchanged. Lines have less than 128 bytes. */
+ * PCC_NO_MEMORY and PCC_TOO_MANY_RESULTS, *written is 0 and `out` is unchanged. 128 bytes are room for any line; no
+ * theorem says so. */
 uint32_t pcc_explain(const uint8_t *policy, size_t policy_length, const uint8_t *container, size_t container_length,
                      uint8_t *out, size_t room, size_t *written);
 
