@@ -272,7 +272,7 @@ def functions(path: str, names: Optional[Set[str]] = None) -> Iterator[Function]
     block = Block()
     for at, line in enumerate(lines):
         block = opened(line) if opened(line).name else Block() if line == "}" else block
-        head = re.match(r"(\s*)(pub(?:\([a-z]+\))? )?fn (\w+)", line)
+        head = re.match(r"(\s*)(pub(?:\([a-z]+\))? )?(?:extern \"C\" )?fn (\w+)", line)
         if not head or names is not None and not is_public(
             block, head.group(2) == "pub ", bool(head.group(1)), head.group(3), names
         ):
