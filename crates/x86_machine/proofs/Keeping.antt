@@ -32,7 +32,8 @@ use Rattle.x86_machine.specs.Machine.{disp_address, x86_outcome, fetched, x86_st
 
 -- ---- words
 
-pub words-set : (regs : List ℕ) (to word : ℕ) → ((r : ℕ) → slice_index regs r < 2 ^ 64) → word < 2 ^ 64 → (q : ℕ) → slice_index (slice_set regs to word) q < 2 ^ 64
+pub words-set : (regs : List ℕ) (to word : ℕ) → ((r : ℕ) → slice_index regs r < 2 ^ 64) → word < 2 ^ 64 →
+    (q : ℕ) → slice_index (slice_set regs to word) q < 2 ^ 64
 words-set regs to word h w q = elim (cases_eq q to) [
   | inl e ↦ elim (cases_lt to (length regs)) [
     | inl within ↦ rw (e, get_or-set_same regs to word 0 within) w
