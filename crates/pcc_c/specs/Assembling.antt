@@ -1,5 +1,5 @@
 -- The container that a source is assembled into.
-use Rattle.std.specs.Prelude.{◌≡◌, ℕ, ◌==◌, ◌&&◌, ◌||◌, nat_lt, nat_le, if◌then◌else◌, List, length, Option, Some, None, is_some, Result, Ok, Err}
+use Rattle.std.specs.Prelude.{◌≡◌, ◌≤◌, ℕ, ◌==◌, ◌&&◌, ◌||◌, nat_lt, nat_le, if◌then◌else◌, List, length, Option, Some, None, is_some, Result, Ok, Err}
 use Rattle.term_table.specs.Steps.{◌>>=◌}
 use Rattle.policy_set.specs.Views.{PolicyView}
 use Rattle.proof_container.specs.Contents.{Contents}
@@ -55,20 +55,27 @@ asm_answer version bound given text = do
 -- ---- what it means
 
 -- The bytes are a container of the version, without a proof, that has the code and the invariants
--- of the source in the text, and is for the policy.
-pub record IsAssembly (version : ℕ) (bound : Option ℕ) (policy : PolicyView) (text out : List ℕ)
-    : Type 0 where
-  pub source : Source
+-- of the source, the bound, and what names the policy.
+pub record IsContainerOf (version : ℕ) (bound : Option ℕ) (policy : PolicyView) (source : Source)
+    (out : List ℕ) : Type 0 where
   pub contents : Contents
-  pub spells : SpellsSource (profile_of version) (is_some bound) text source
   pub assembles : Assembles version bound policy source contents
   pub within : IsWithinLimits contents
   pub encoded : out ≡ encoding_of contents
 
--- the same for the policy that bytes give, with the bound, where 0 says that there is none
+-- The bytes are such a container of the source in the text, which isn't too long, for the policy
+-- that bytes give and with the bound, where 0 says that there is none.
 pub record IsAssemblyFor (version bound : ℕ) (given text out : List ℕ) : Type 0 where
   pub steps : Option ℕ
   pub policy : PolicyView
+  pub source : Source
   pub bounded : bound_given version bound ≡ Ok steps
   pub gives : policy_for version given ≡ Ok policy
-  pub assembly : IsAssembly version steps policy text out
+  pub short : length text ≤ MAX_SOURCE
+  pub spells : SpellsSource (profile_of version) (is_some steps) text source
+  pub container : IsContainerOf version steps policy source out
+
+-- no bytes are such a container
+abbrev pub HasNoAssembly : ℕ → ℕ → List ℕ → List ℕ → Type 0
+HasNoAssembly version bound given text =
+    (out : List ℕ) → IsAssemblyFor version bound given text out → ⊥

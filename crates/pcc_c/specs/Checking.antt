@@ -17,16 +17,16 @@ use Rattle.pcc_c.specs.Reasons.{without_last}
 use Rattle.pcc_c.specs.Policies.{policy_given}
 
 -- nothing, unless there is a refusal
-abbrev pub unless_refused : Option Refusal → Result (Unit {0}) Reason
-unless_refused None = Ok tt
-unless_refused (Some refusal) = Err (reason.Refused refusal)
+abbrev pub refusal_answer : Option Refusal → Result (Unit {0}) Reason
+refusal_answer None = Ok tt
+refusal_answer (Some refusal) = Err (reason.Refused refusal)
 
 -- what `pcc_check` answers: by the first acceptance check that fails, under the policy that the
 -- first bytes give
 abbrev pub check_answer : List ℕ → List ℕ → Result (Unit {0}) Reason
 check_answer given bytes = do
   policy ← policy_given given
-  unless_refused (first_refusal policy bytes)
+  refusal_answer (first_refusal policy bytes)
 
 -- what `pcc_explain` puts into the buffer if the bytes are accepted, else why they aren't
 abbrev pub explain_answer : List ℕ → List ℕ → Result (List ℕ) Reason

@@ -1,16 +1,19 @@
 //! Containers from sources.
 
-ghost use Rattle.std.specs.Prelude.{◌≡◌, ◌≤◌, ◌×◌, ⊥, ℕ, List, length, take, is_some, IfOk};
+ghost use Rattle.std.specs.Prelude.{◌≡◌, ◌≤◌, length, take, is_some, IfOk, IfErr, OnOk};
 ghost use Rattle.proof_container.specs.Versions.{profile_of, IsVersion, IsBoundOf};
 ghost use Rattle.asm_text.specs.Views.{source_view};
-ghost use Rattle.pcc_asm.specs.Assembling.{assembled_contents};
+ghost use Rattle.asm_text.specs.declared.limits.TheConstants.{MAX_SOURCE};
+ghost use Rattle.asm_text.specs.Sources.{Source as SourceView, SpellsSource};
+ghost use Rattle.proof_container.specs.Contents.{Contents};
+ghost use Rattle.pcc_asm.specs.Assembling.{Assembles, assembled_contents};
 ghost use Rattle.pcc_asm.specs.Views.{IsSpelled};
 ghost use Rattle.pcc_c.specs.declared.statuses.TheConstants.{DONE, BAD_SOURCE};
 ghost use Rattle.pcc_c.specs.Statuses.{IsNoMemory};
 ghost use Rattle.pcc_c.specs.Assembling.{bound_given, source_given, container_written, asm_answer};
-ghost use Rattle.pcc_c.specs.Assembling.{IsAssemblyFor};
+ghost use Rattle.pcc_c.specs.Assembling.{IsContainerOf, IsAssemblyFor, HasNoAssembly};
 ghost use Rattle.pcc_c.specs.Buffers.{Answers};
-ghost use Rattle.pcc_c.specs.Inside.Answers.{IsDue};
+ghost use Rattle.pcc_c.specs.Inside.Answers.{IsDue, IfAt};
 
 use crate::buffers::tell;
 use crate::fault::Fault;
@@ -46,8 +49,11 @@ fn source_given(
     text: &[u8],
 ) -> Result<Source, Fault>
     ensures exact { IsDue ⊥ source_view (source_given version steps text.now) result }
-    ensures spelled { IfOk result
-        (λ s. IsSpelled (profile_of version) (is_some steps) (source_view s)) }
+    ensures short { OnOk result (length text.now ≤ MAX_SOURCE) }
+    ensures spells { let p = profile_of version in
+        IfOk result (λ s. SpellsSource p (is_some steps) text.now (source_view s)) }
+    ensures none { let p = profile_of version in IfErr result (IfAt (length text.now ≤ MAX_SOURCE
+        → (s : SourceView) → SpellsSource p (is_some steps) text.now s → ⊥)) }
 {
     if text.len() > MAX_SOURCE {
         return Err(Fault::At(Reason::SourceTooLong));
@@ -71,8 +77,12 @@ fn container_of(
     requires version { IsVersion version }
     requires steps { IsBoundOf version steps }
     requires spelled { IsSpelled (profile_of version) (is_some steps) (source_view source.now) }
-    ensures { IsDue ⊥ (λ made. made.items) (container_written
+    ensures exact { IsDue ⊥ (λ made. made.items) (container_written
         (assembled_contents version steps policy.now (source_view source.now))) result }
+    ensures assembles { IfOk result (λ made. IsContainerOf version steps policy.now
+        (source_view source.now) made.items) }
+    ensures none { IfErr result (IfAt ((c : Contents)
+        → Assembles version steps policy.now (source_view source.now) c → ⊥)) }
 {
     match assemble(alloc, source, policy, version, steps) {
         Ok(assembled) => Ok(write(alloc, &assembled.view())?),
@@ -83,6 +93,7 @@ fn container_of(
 
 /// Returns the container of the version that the source in the text is assembled into, for the
 /// policy that `policy` gives and with the bound. Errors: why there is none, or out of memory.
+#[tactic(auto, unfolding(crate::specs::Assembling::asm_answer))]
 fn asm_answer(
     alloc: Global,
     version: u32,
@@ -90,12 +101,18 @@ fn asm_answer(
     policy: &[u8],
     text: &[u8],
 ) -> Result<Vec<u8>, Fault>
-    ensures { IsDue ⊥ (λ made. made.items) (asm_answer version bound policy.now text.now) result }
+    ensures exact { IsDue ⊥ (λ made. made.items)
+        (asm_answer version bound policy.now text.now) result }
+    ensures assembles { IfOk result
+        (λ made. IsAssemblyFor version bound policy.now text.now made.items) }
+    ensures none { IfErr result (IfAt (HasNoAssembly version bound policy.now text.now)) }
 {
+    asm_text::laws(); // tells the prover that a text spells one source at most
     let steps = bound_given(version, bound)?;
     let under = policy_for(alloc, version, policy)?;
     let source = source_given(alloc, version, steps, text)?;
-    container_of(alloc, version, steps, &under, &source)
+    let made = container_of(alloc, version, steps, &under, &source)?;
+    Ok(made)
 }
 
 /// Assembles the source in the text, and stores the container of the version, 1 to 4, for the policy
@@ -121,8 +138,7 @@ pub extern "C" fn pcc_asm(
         out.old out.new written.new result }
     ensures assembles { result ≡ DONE
         → IsAssemblyFor version bound policy.now text.now (take written.new out.new) }
-    ensures none { result ≡ BAD_SOURCE
-        → (made : List ℕ) → IsAssemblyFor version bound policy.now text.now made → ⊥ }
+    ensures none { result ≡ BAD_SOURCE → HasNoAssembly version bound policy.now text.now }
 {
     let made = asm_answer(alloc, version, bound, policy, text);
     tell(alloc, made, out, written)

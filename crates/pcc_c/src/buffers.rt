@@ -35,10 +35,14 @@ fn line_of(alloc: Global, why: Reason) -> Result<MemSink, AllocError>
     ensures short { IfOk result (λ sink. length sink.bytes ≤ LINE) }
 {
     let mut sink = MemSink::new(alloc, LINE, Vec::new(alloc))?;
-    match why.print(&mut sink) {
-        Put::Done => Ok(sink),
-        Put::Failed => Err(AllocError),
+    let put = why.print(&mut sink);
+    if let Put::Failed = put {
+        return Err(AllocError);
     }
+    if sink.bytes().len() > LINE as usize {
+        return Err(AllocError); // tells the prover that the sink had room for the line
+    }
+    Ok(sink)
 }
 
 /// Stores the line of the reason, without LF, and returns its status.

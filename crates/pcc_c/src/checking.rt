@@ -1,7 +1,7 @@
 //! Whether a container is accepted.
 
 ghost use Rattle.std.specs.Prelude.{◌≡◌, IfOk, OnOk};
-ghost use Rattle.pcc_c.specs.Checking.{unless_refused, check_answer, IsCheckStatus};
+ghost use Rattle.pcc_c.specs.Checking.{refusal_answer, check_answer, IsCheckStatus};
 ghost use Rattle.pcc_c.specs.Checking.{IsSafeCode, IsSafeUnder, SafeIfDone};
 ghost use Rattle.pcc_gate.specs.First.{first_refusal};
 ghost use Rattle.pcc_c.specs.Inside.Answers.{IsDue};
@@ -18,7 +18,7 @@ use std::alloc::Global;
 /// memory or cached results.
 fn judged(alloc: Global, policy: &Policy, bytes: &[u8]) -> Result<(), Fault>
     ensures exact { IsDue (Unit {0}) (λ done. done)
-        (unless_refused (first_refusal policy.now bytes.now)) result }
+        (refusal_answer (first_refusal policy.now bytes.now)) result }
     ensures safe { OnOk result (IsSafeCode policy.now bytes.now) }
 {
     match gate(alloc, policy, bytes) {

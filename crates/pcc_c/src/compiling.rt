@@ -32,6 +32,7 @@ fn program_read(alloc: Global, bytes: &[u8]) -> Result<Vec<Bpf>, Fault>
 
 /// Returns the container that the program in the bytes is compiled to. Errors: why there is none,
 /// or out of memory or cached results.
+#[tactic(auto, unfolding(crate::specs::Compiling::bpf_answer))]
 fn bpf_answer(alloc: Global, bytes: &[u8]) -> Result<Vec<u8>, Fault>
     ensures exact { IsDue (Unit {0}) (λ made. made.items) (bpf_answer bytes.now) result }
     ensures compiled { IfOk result (λ made. IsCompiledFrom bytes.now made.items) }

@@ -5,7 +5,8 @@ ghost use Rattle.pcc_gate.specs.Accepted.{IsAccepted};
 ghost use Rattle.bounds_prover.specs.Proving.{proved_container};
 ghost use Rattle.pcc_c.specs.declared.statuses.TheConstants.{DONE};
 ghost use Rattle.pcc_c.specs.Statuses.{IsShortage};
-ghost use Rattle.pcc_c.specs.Proving.{container_proven, prove_answer, IsAcceptedUnder};
+ghost use Rattle.pcc_c.specs.Proving.{prove_reason, container_proven, prove_answer};
+ghost use Rattle.pcc_c.specs.Proving.{IsAcceptedUnder};
 ghost use Rattle.pcc_c.specs.Buffers.{Answers};
 ghost use Rattle.pcc_c.specs.Inside.Answers.{IsDue};
 
@@ -17,6 +18,17 @@ use bounds_prover::{ProveFault, ProveFlaw, prove};
 use policy_set::Policy;
 use std::alloc::Global;
 
+/// Returns why a container with this flaw gets no proof.
+fn prove_reason(flaw: ProveFlaw) -> Reason
+    ensures { result ≡ prove_reason flaw }
+{
+    match flaw {
+        ProveFlaw::Refused(refusal) => Reason::Refused(refusal),
+        ProveFlaw::NotEasy(part) => Reason::NotEasy(part),
+        ProveFlaw::TooBig(measure, number) => Reason::TooBig(measure, number),
+    }
+}
+
 /// Returns the container in the bytes with a proof of its condition under the policy. Errors: why
 /// there is none, or out of memory or cached results.
 fn proved(alloc: Global, policy: &Policy, bytes: &[u8]) -> Result<Vec<u8>, Fault>
@@ -26,13 +38,7 @@ fn proved(alloc: Global, policy: &Policy, bytes: &[u8]) -> Result<Vec<u8>, Fault
 {
     match prove(alloc, policy, bytes) {
         Ok(made) => Ok(made),
-        Err(ProveFault::At(ProveFlaw::Refused(refusal))) => {
-            Err(Fault::At(Reason::Refused(refusal)))
-        }
-        Err(ProveFault::At(ProveFlaw::NotEasy(part))) => Err(Fault::At(Reason::NotEasy(part))),
-        Err(ProveFault::At(ProveFlaw::TooBig(measure, number))) => {
-            Err(Fault::At(Reason::TooBig(measure, number)))
-        }
+        Err(ProveFault::At(flaw)) => Err(Fault::At(prove_reason(flaw))),
         Err(ProveFault::Memory) => Err(Fault::Memory),
         Err(ProveFault::Results) => Err(Fault::Results),
     }

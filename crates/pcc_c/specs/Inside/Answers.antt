@@ -34,3 +34,9 @@ TellsFault fault.Results old new count status =
 abbrev pub TellsMade : Result (Vec ℕ Global) Fault → List ℕ → List ℕ → ℕ → ℕ → Type 0
 TellsMade (Ok made) old new count status = StoresIn made.items DONE old new count status
 TellsMade (Err why) old new count status = TellsFault why old new count status
+
+-- this holds if the fault has a reason
+abbrev pub IfAt : Type 0 → Fault → Type 0
+IfAt P (fault.At why) = P
+IfAt P fault.Memory = Unit {0}
+IfAt P fault.Results = Unit {0}
