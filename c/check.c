@@ -18,7 +18,7 @@ static size_t read_file(const char *name, uint8_t *to, size_t most) {
 
 int main(int count, char **words) {
     static uint8_t policy[8200], container[4194305]; /* a byte more than is ever accepted */
-    uint8_t line[128];
+    uint8_t line[PCC_LINE];
     size_t policy_length = 0, container_length, length;
     if (count != 3 || pcc_abi() != PCC_ABI) {
         fputs("usage: check POLICY CONTAINER\n", stderr);

@@ -2,7 +2,7 @@
  * malloc's are, and the library asks for no more. It never passes a null pointer.
  *
  * With PCC_FAIL_AT defined the functions also count their calls, and the call with the number pcc_fail_at, from 1, finds
- * no memory; so does each later one if pcc_fail_on is set. c/check.c needs that. */
+ * no memory; so does each later one if pcc_fail_on is set. c/try.c needs that. */
 #include <stdbool.h>
 #include <stddef.h>
 #include <stdlib.h>

@@ -1,4 +1,4 @@
-/* pcc.h: checks containers of proof-carrying code. For C99 and C++.
+/* pcc.h: makes and checks containers of proof-carrying code. For C99 and C++.
  *
  * Link libpcc_c.a and heap.o. Each function is proved, in crates/pcc_c, to do what is said here of it. The caller has to
  * see to the rest:
@@ -23,10 +23,13 @@ extern "C" {
 /* The number of this interface; also the one in the name libpcc.so.1. A change that breaks callers raises it. */
 #define PCC_ABI 1
 
+/* The room that any line needs, in bytes. */
+#define PCC_LINE 128
+
 /* What a function returns. A number never changes its meaning. 1 to 14 are the number after `refused` in the line that
- * `pcc check` prints: the first acceptance check that fails. */
+ * `pcc` prints: the first acceptance check that fails. */
 enum pcc_status {
-    PCC_DONE = 0, /* the container is accepted */
+    PCC_DONE = 0, /* the container is accepted, or the result is made */
     PCC_TOO_LONG = 1,
     PCC_MALFORMED = 2,
     PCC_OTHER_POLICY = 3,
@@ -38,14 +41,19 @@ enum pcc_status {
     PCC_NO_PROOF = 9,
     PCC_PROOF_WEIGHT = 10,
     PCC_NOT_PROOF = 11,
-    PCC_ALREADY = 12, /* of an upgrade; no function returns it yet */
+    PCC_ALREADY = 12, /* the container to be upgraded is of a later version */
     PCC_LEMMA_NOT_FORM = 13,
     PCC_LEMMA_NOT_PROOF = 14,
-    PCC_UNKNOWN_POLICY = 32,   /* the policy is at most one line, and no name */
+    PCC_UNKNOWN_POLICY = 32,   /* the policy is at most one line, and no name; or version 1, and it is no name */
     PCC_BAD_POLICY = 33,       /* the policy is a policy file that spells no policy */
     PCC_NO_MEMORY = 34,        /* memory ran out: says nothing about the arguments */
     PCC_TOO_MANY_RESULTS = 35, /* past the limit of cached results: says nothing about the arguments */
-    PCC_NO_ROOM = 36           /* the result doesn't fit in `out`, which is unchanged; *written is its length */
+    PCC_NO_ROOM = 36,          /* the result doesn't fit in `out`, which is unchanged; *written is its length */
+    PCC_BAD_SOURCE = 37,       /* the text can't be assembled: the first line that is wrong, or it is too long */
+    PCC_BAD_PROGRAM = 38,      /* the bytes are no program of classic BPF that can be compiled */
+    PCC_NOT_EASY = 39,         /* the prover finds no proof of a part of the verification condition */
+    PCC_TOO_BIG = 40,          /* the container would be past a limit */
+    PCC_BAD_VERSION = 41       /* no such version, or not with this bound */
 };
 
 /* A policy is given as bytes: `filter`, `tag` or `table`, or the two lines of a policy file (docs/POLICIES.md). */
@@ -55,12 +63,39 @@ enum pcc_status {
  * returns, the postcondition holds. If the container has a step bound, the code returns within it. */
 uint32_t pcc_check(const uint8_t *policy, size_t policy_length, const uint8_t *container, size_t container_length);
 
-/* Checks the container as pcc_check does, and puts the line that `pcc check` prints, without LF, at the front of `out`.
- * Sets *written to the length of the line, and returns what pcc_check would, or PCC_NO_ROOM if `room` is less. On
- * PCC_NO_MEMORY and PCC_TOO_MANY_RESULTS, *written is 0 and `out` is unchanged. 128 bytes are room for any line; no
- * theorem says so. */
+/* The functions below put a result at the front of `out`, which has `room` bytes, and its length into *written. If it
+ * doesn't fit, they return PCC_NO_ROOM, `out` is unchanged, and *written is the length needed. If a function refuses,
+ * its result is the line that `pcc` prints, without LF, and the status says which kind of line. On PCC_NO_MEMORY and
+ * PCC_TOO_MANY_RESULTS, *written is 0 and `out` is unchanged. */
+
+/* Checks the container as pcc_check does, and returns what pcc_check would. Its result is the line of `pcc check`, of at
+ * most PCC_LINE bytes. */
 uint32_t pcc_explain(const uint8_t *policy, size_t policy_length, const uint8_t *container, size_t container_length,
                      uint8_t *out, size_t room, size_t *written);
+
+/* Assembles the source text into a container without a proof. `version` is 1 to 4; `bound` is the step bound, from 1 to
+ * 1,000,000,000, in version 3, and 0 in the others. Version 1 takes the policies with names alone. Else the status is
+ * PCC_BAD_SOURCE, PCC_UNKNOWN_POLICY or PCC_BAD_POLICY, or PCC_BAD_VERSION, which has no line. */
+uint32_t pcc_asm(uint32_t version, uint32_t bound, const uint8_t *policy, size_t policy_length, const uint8_t *text,
+                 size_t text_length, uint8_t *out, size_t room, size_t *written);
+
+/* Makes the container with a proof in place of its own. pcc_check accepts it under the policy. Else the status is 1 to
+ * 8, 10, 13 or 14, PCC_NOT_EASY, PCC_TOO_BIG, PCC_UNKNOWN_POLICY or PCC_BAD_POLICY. */
+uint32_t pcc_prove(const uint8_t *policy, size_t policy_length, const uint8_t *container, size_t container_length,
+                   uint8_t *out, size_t room, size_t *written);
+
+/* Compiles a program of classic BPF, of 8 bytes an instruction, into a container that pcc_check accepts under `filter`.
+ * On a packet of 64 bytes or more its code returns 0 if the program's value is 0, else 1. Else the status is
+ * PCC_BAD_PROGRAM. */
+uint32_t pcc_bpf(const uint8_t *program, size_t program_length, uint8_t *out, size_t room, size_t *written);
+
+/* Makes the container of version 2 with the code, the invariants and the proof of one of version 1. Each policy that
+ * accepts that accepts this. Else the status is 1, 2, 3, PCC_ALREADY or PCC_TOO_BIG. */
+uint32_t pcc_upgrade(const uint8_t *container, size_t container_length, uint8_t *out, size_t room, size_t *written);
+
+/* Makes the digest by which containers name the policy, 32 bytes: the SHA-256 of its text. Else the status is
+ * PCC_UNKNOWN_POLICY or PCC_BAD_POLICY. */
+uint32_t pcc_policy(const uint8_t *policy, size_t policy_length, uint8_t *out, size_t room, size_t *written);
 
 /* Returns PCC_ABI of the library that is linked. */
 uint32_t pcc_abi(void);

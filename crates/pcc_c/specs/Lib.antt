@@ -1,4 +1,10 @@
 pub mod Statuses
-pub mod Verdicts
-pub mod Checks
+pub mod Reasons
+pub mod Policies
+pub mod Checking
+pub mod Assembling
+pub mod Proving
+pub mod Compiling
+pub mod Upgrading
 pub mod Buffers
+pub mod Inside

@@ -1,18 +1,30 @@
-//! Checks containers for C programs, and says why one is refused.
+//! Makes and checks containers for C programs, and says why a call does nothing.
 //!
-//! The exports are `pcc_check`, `pcc_explain` and `pcc_abi`; `c/pcc.h` declares them. Bytes come as a
-//! pointer and a length, a text goes into a buffer of the caller's, and each call returns a status.
-//! `specs/Verdicts` says what the verdict on bytes is and which line it has, `specs/Statuses` which
-//! number. `specs/Checks` says what a status implies, and `specs/Buffers` what a buffer holds.
+//! `c/pcc.h` declares the exports. Bytes come as a pointer and a length, a result goes into a buffer
+//! of the caller's, and each call returns a status. For each export `specs/` has a file that says
+//! what its answer is: bytes, or the reason why there are none (`specs/Checking`, `Assembling`,
+//! `Proving`, `Compiling`, `Upgrading`, `Policies`). `specs/Statuses` says which number a reason
+//! has, `specs/Reasons` which line, and `specs/Buffers` what a buffer holds after a call.
 #![tactic(auto)]
 
 mod abi;
+mod assembling;
 mod buffers;
 mod checking;
+mod compiling;
 mod explaining;
+mod fault;
+mod policies;
+mod proving;
+mod reason;
 mod statuses;
-mod verdict;
+mod upgrading;
 
 pub use abi::pcc_abi;
+pub use assembling::pcc_asm;
 pub use checking::pcc_check;
+pub use compiling::pcc_bpf;
 pub use explaining::pcc_explain;
+pub use policies::pcc_policy;
+pub use proving::pcc_prove;
+pub use upgrading::pcc_upgrade;

@@ -1,15 +1,18 @@
 //! The statuses that calls return.
 
 ghost use Rattle.std.specs.Prelude.{◌≡◌};
-ghost use Rattle.pcc_c.specs.Statuses.{refusal_number, IsShortage};
+ghost use Rattle.pcc_c.specs.Statuses.{refusal_number};
 
-use lf_check::Exhausted;
 use pcc_gate::Refusal;
 
 /// The call did what was asked; the container is accepted.
 pub const DONE: u32 = 0;
 
-/// The bytes for the policy are at most one line, and not the name of a built-in policy.
+/// The container to be upgraded is of a later version already.
+pub const ALREADY: u32 = 12;
+
+/// The bytes for the policy are at most one line, and not the name of a built-in policy; or the
+/// container is of version 1, and they aren't such a name.
 pub const UNKNOWN_POLICY: u32 = 32;
 
 /// The bytes for the policy are neither a name nor a policy file that spells a policy.
@@ -23,6 +26,21 @@ pub const TOO_MANY_RESULTS: u32 = 35;
 
 /// The result has more bytes than the buffer.
 pub const NO_ROOM: u32 = 36;
+
+/// The text is no source that can be assembled.
+pub const BAD_SOURCE: u32 = 37;
+
+/// The bytes are no program of classic BPF that can be compiled.
+pub const BAD_PROGRAM: u32 = 38;
+
+/// A part of the verification condition isn't easy to prove.
+pub const NOT_EASY: u32 = 39;
+
+/// The container that would be made is past a limit.
+pub const TOO_BIG: u32 = 40;
+
+/// There is no such version, or the step bound isn't one that the version may have.
+pub const BAD_VERSION: u32 = 41;
 
 /// Returns the number that the refusal's line has after `refused`.
 pub fn refusal_number(refusal: Refusal) -> u32
@@ -42,15 +60,5 @@ pub fn refusal_number(refusal: Refusal) -> u32
         Refusal::NotProof => 11,
         Refusal::LemmaNotForm(_) => 13,
         Refusal::LemmaNotProof(_) => 14,
-    }
-}
-
-/// Returns the status of a call that ran out of the resource.
-pub fn shortage_number(what: Exhausted) -> u32
-    ensures { IsShortage result }
-{
-    match what {
-        Exhausted::Memory => NO_MEMORY,
-        Exhausted::Results => TOO_MANY_RESULTS,
     }
 }

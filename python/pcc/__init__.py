@@ -1,0 +1,211 @@
+"""Makes and checks containers of proof-carrying code, by the proved library for C.
+
+    import pcc
+    verdict = pcc.explain("filter", container)  # bytes
+    if not verdict:
+        print(verdict.line)                     # for example: refused 11 NotProof
+
+A policy is the name of a built-in one, `filter`, `tag` or `table`, or a `Policy`. Each function but `check` and `explain`
+returns bytes, and raises `Refused` with the line that `pcc` prints if there are none. `Exhausted` says nothing about the
+arguments.
+
+The library is the shared one that PCC_LIBRARY names, else libpcc.so.N, where N is `ABI`. What is proved of it stands in
+docs/LIBRARY.md; this file is only tested. Threads may call at the same time.
+"""
+from __future__ import annotations
+
+import ctypes
+import enum
+import functools
+import os
+from typing import Any, Callable, NamedTuple, Union
+
+__all__ = ["ABI", "Error", "Exhausted", "Policy", "Refused", "Status", "Verdict", "assemble", "check", "compile_bpf",
+           "explain", "prove", "upgrade"]
+
+ABI = 1  # the interface that this file is for, PCC_ABI of pcc.h
+ROOM = 65536  # bytes of the buffer that is tried first
+DIGEST = 32  # bytes of a digest
+
+
+class Status(enum.IntEnum):
+    """What a call of the library returns, by the names of pcc.h."""
+
+    DONE = 0
+    TOO_LONG = 1
+    MALFORMED = 2
+    OTHER_POLICY = 3
+    BAD_CODE = 4
+    HEIGHT = 5
+    INV_NOT_FORM = 6
+    UNCUT = 7
+    UNFOLD_LIMIT = 8
+    NO_PROOF = 9
+    PROOF_WEIGHT = 10
+    NOT_PROOF = 11
+    ALREADY = 12
+    LEMMA_NOT_FORM = 13
+    LEMMA_NOT_PROOF = 14
+    UNKNOWN_POLICY = 32
+    BAD_POLICY = 33
+    NO_MEMORY = 34
+    TOO_MANY_RESULTS = 35
+    NO_ROOM = 36
+    BAD_SOURCE = 37
+    BAD_PROGRAM = 38
+    NOT_EASY = 39
+    TOO_BIG = 40
+    BAD_VERSION = 41
+
+
+class Error(Exception):
+    """A call without a result. `status` says why, and `line` is what `pcc` prints, or empty."""
+
+    def __init__(self, status: Status, line: str) -> None:
+        super().__init__(line or status.name)
+        self.status = status
+        self.line = line
+
+
+class Refused(Error):
+    """The arguments have no result."""
+
+
+class Exhausted(Error):
+    """Memory or cached results ran out. That says nothing about the arguments."""
+
+
+class Verdict(NamedTuple):
+    """What `explain` returns. It is true exactly if the container is accepted."""
+
+    status: Status
+    line: str
+
+    def __bool__(self) -> bool:
+        return self.status == Status.DONE
+
+
+class Policy:
+    """A policy: the name of a built-in one, or the two lines of a policy file."""
+
+    def __init__(self, text: Union[str, bytes]) -> None:
+        """Raises Refused if the text gives no policy."""
+        self.text = _bytes(text)
+        self.digest = _made("pcc_policy", self.text)
+
+    @classmethod
+    def from_file(cls, path: Union[str, "os.PathLike[str]"]) -> "Policy":
+        """Returns the policy in a policy file. Raises Refused if the file spells none."""
+        with open(path, "rb") as file:
+            return cls(file.read())
+
+    def __repr__(self) -> str:
+        return "Policy(%r)" % self.text
+
+
+PolicyLike = Union[str, bytes, Policy]
+
+
+@functools.lru_cache(maxsize=None)
+def _library() -> ctypes.CDLL:
+    """Returns the library. Raises OSError if there is none, and ImportError if it has another interface."""
+    name = os.environ.get("PCC_LIBRARY") or "libpcc.so.%d" % ABI
+    found = ctypes.CDLL(name)
+    text, out = [ctypes.c_char_p, ctypes.c_size_t], [ctypes.c_void_p, ctypes.c_size_t, ctypes.POINTER(ctypes.c_size_t)]
+    number = ctypes.c_uint32
+    for function, arguments in (("pcc_abi", []), ("pcc_check", text + text), ("pcc_explain", text + text + out),
+                                ("pcc_asm", [number, number] + text + text + out), ("pcc_prove", text + text + out),
+                                ("pcc_bpf", text + out), ("pcc_upgrade", text + out), ("pcc_policy", text + out)):
+        call = getattr(found, function)
+        call.argtypes, call.restype = arguments, number
+    if found.pcc_abi() != ABI:
+        raise ImportError("%s has interface %d, not %d" % (name, found.pcc_abi(), ABI))
+    return found
+
+
+def _given(*arguments: Union[int, bytes]) -> "list[Any]":
+    """Returns arguments as C takes them: bytes are a pointer and a length."""
+    return [part for it in arguments for part in ((it,) if isinstance(it, int) else (it, len(it)))]
+
+
+def _told(function: str, *arguments: Union[int, bytes]) -> "tuple[Status, bytes]":
+    """Calls a function that has a buffer, in one that is large enough. Raises Exhausted."""
+    call: Callable[..., int] = getattr(_library(), function)
+    written, room = ctypes.c_size_t(), ROOM
+    while True:
+        out = ctypes.create_string_buffer(max(room, 1))
+        status = Status(call(*_given(*arguments), out, room, ctypes.byref(written)))
+        if status != Status.NO_ROOM:
+            break
+        room = written.value
+    if status in (Status.NO_MEMORY, Status.TOO_MANY_RESULTS):
+        raise Exhausted(status, "")
+    return status, out.raw[: written.value]
+
+
+def _made(function: str, *arguments: Union[int, bytes]) -> bytes:
+    """Returns what a function makes. Raises Refused and Exhausted."""
+    status, result = _told(function, *arguments)
+    if status != Status.DONE:
+        raise Refused(status, result.decode("ascii"))
+    return result
+
+
+def _bytes(value: Union[str, bytes]) -> bytes:
+    """Returns a text or bytes-like object as bytes."""
+    return value.encode() if isinstance(value, str) else memoryview(value).tobytes()
+
+
+def _policy(policy: PolicyLike) -> bytes:
+    return policy.text if isinstance(policy, Policy) else _bytes(policy)
+
+
+def explain(policy: PolicyLike, container: bytes) -> Verdict:
+    """Checks whether the container is accepted under the policy, and returns the verdict with the line of `pcc check`.
+
+    Raises Refused if the text gives no policy, and Exhausted.
+    """
+    status, line = _told("pcc_explain", _policy(policy), memoryview(container).tobytes())
+    if status in (Status.UNKNOWN_POLICY, Status.BAD_POLICY):
+        raise Refused(status, line.decode("ascii"))
+    return Verdict(status, line.decode("ascii"))
+
+
+def check(policy: PolicyLike, container: bytes) -> bool:
+    """Checks whether the container is accepted under the policy. Raises as `explain` does."""
+    given = _policy(policy), memoryview(container).tobytes()
+    status = Status(_library().pcc_check(*_given(*given)))
+    if status in (Status.NO_MEMORY, Status.TOO_MANY_RESULTS):
+        raise Exhausted(status, "")
+    if status in (Status.UNKNOWN_POLICY, Status.BAD_POLICY):
+        return bool(explain(*given))  # raises with the line
+    return status == Status.DONE
+
+
+def assemble(policy: PolicyLike, source: Union[str, bytes], *, version: int = 1, bound: int = 0) -> bytes:
+    """Returns the container, without a proof, that the source is assembled into.
+
+    The version is 1 to 4. In version 3 the bound is the step bound, 1 to 1,000,000,000, and in the others 0. Version 1
+    takes names alone. Raises Refused at the first line that is wrong, and Exhausted.
+    """
+    if not 0 <= version < 2**32 or not 0 <= bound < 2**32:
+        raise Refused(Status.BAD_VERSION, "")
+    return _made("pcc_asm", version, bound, _policy(policy), _bytes(source))
+
+
+def prove(policy: PolicyLike, container: bytes) -> bytes:
+    """Returns the container with a proof; `check` accepts it. Raises Refused if the prover finds none, and Exhausted."""
+    return _made("pcc_prove", _policy(policy), memoryview(container).tobytes())
+
+
+def compile_bpf(program: bytes) -> bytes:
+    """Returns the container for `filter` that a program of classic BPF is compiled to; `check` accepts it.
+
+    An instruction has 8 bytes. Raises Refused if the bytes are no program that can be compiled, and Exhausted.
+    """
+    return _made("pcc_bpf", memoryview(program).tobytes())
+
+
+def upgrade(container: bytes) -> bytes:
+    """Returns the container of version 2 of one of version 1. Raises Refused if there is none, and Exhausted."""
+    return _made("pcc_upgrade", memoryview(container).tobytes())
