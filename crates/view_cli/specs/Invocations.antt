@@ -1,5 +1,5 @@
 -- What arguments are a command of pcc_view, and with which values, by the definitions of `clap` for simple commands.
-use Rattle.std.specs.Prelude.{ℕ, ◌&&◌, Bool, true, false, List, [], ◌∷◌, nat_le, Option, Some, None, codes, option_and_then, if◌then◌else◌}
+use Rattle.std.specs.Prelude.{ℕ, ◌&&◌, ◌||◌, Bool, true, false, List, [], ◌∷◌, nat_le, Option, Some, None, codes, option_and_then, if◌then◌else◌}
 use Rattle.std.specs.Str.{bytes_eq}
 use Rattle.clap.specs.Words.{App, Kinds, Row, Rule, Text, fault_of, first_of, new_app, new_rule, subcommand_of, with_rule, with_subcommand}
 use Rattle.clap.specs.Simple.{on_top}
@@ -75,7 +75,7 @@ pub data ViewInvocation : Type 0 where
   formula : Text → ViewInvocation
   -- `source FILE [--v2] [--bound N]`, the version of the container that it is for, and its bound if it has one
   source : Text → ℕ → Option ℕ → ViewInvocation
-  -- `--help`
+  -- help, as `--help` asks for it
   help : ViewInvocation
   -- `--version`
   version : ViewInvocation
@@ -140,9 +140,33 @@ is_alone word [] = false
 is_alone word (first ∷ []) = bytes_eq first word
 is_alone word (first ∷ second ∷ rest) = false
 
--- The command that the arguments are: `--help` or `--version` alone, or what `clap` finds.
+-- `--help` or `-h`
+abbrev pub is_help_flag : Text → Bool
+is_help_flag word = bytes_eq word (codes "--help") || bytes_eq word (codes "-h")
+
+-- the name of a command
+abbrev pub is_command_name : Text → Bool
+is_command_name word =
+    bytes_eq word (codes "list") || bytes_eq word (codes "goals") || bytes_eq word (codes "packet")
+    || bytes_eq word (codes "formula") || bytes_eq word (codes "source")
+
+-- a command's name before a flag of help, or behind `help`
+abbrev pub is_help_pair : Text → Text → Bool
+is_help_pair first second =
+    (is_command_name first && is_help_flag second)
+    || (bytes_eq first (codes "help") && is_command_name second)
+
+-- The arguments ask for help: they are `--help`, `-h` or `help` alone, or one of these and a command's
+-- name.
+abbrev pub asks_help : List Text → Bool
+asks_help [] = false
+asks_help (word ∷ []) = is_help_flag word || bytes_eq word (codes "help")
+asks_help (first ∷ second ∷ []) = is_help_pair first second
+asks_help (first ∷ second ∷ third ∷ rest) = false
+
+-- The command that the arguments are: they ask for help, are `--version` alone, or are what `clap` finds.
 abbrev pub view_command_of : List Text → Option ViewInvocation
 view_command_of args =
-    if is_alone (codes "--help") args then Some help else
+    if asks_help args then Some help else
     if is_alone (codes "--version") args then Some version else
     parsed_command_of args
