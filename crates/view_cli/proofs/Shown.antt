@@ -82,7 +82,7 @@ use Rattle.view_cli.specs.declared.limits.TheConstants.{MAX_FORMULA}
 use Rattle.view_cli.specs.Commands.Faults.{told_exit, formula_command, source_command}
 use Rattle.view_cli.specs.Commands.Goals.{goals_found, goals_command}
 use Rattle.view_cli.specs.Commands.List.{container_found, lines_found, lines_in, source_lines_of, list_command}
-use Rattle.view_cli.specs.Commands.Packet.{packet_exit, packet_command}
+use Rattle.view_cli.specs.Commands.Packet.{traced_exit, where_started, packet_command}
 use Rattle.view_cli.specs.Tasks.{view_task}
 use Rattle.view_cli.specs.Headline.{IsToldBy, AreLinesOf, ListsContents, first_hard_part, ListsGoals, EndsWithLine, TracesPacket, SaysOfForm, IsToldWithMark, SaysOfSource, SaysOf, IsShown, RunShows, came_to, ran_out, ShowsIfCommand}
 use Rattle.view_cli.proofs.Always.{Always, always_comes}
@@ -454,17 +454,20 @@ module _ (laws : ViewLaws) (file packets : List ℕ) (k steps : ℕ) (word : Pol
 
   packet_traced : (told : List Event) (under : PolicyView) → IsToldBy word told under
       → (b : List ℕ) (code : List Insn) → code_in under b ≡ gives code → (d : List ℕ)
-      (all : List (List ℕ)) → decoded_packets d ≡ Ok all → (o : Option (List ℕ))
-      → slice_get all k ≡ o
+      (all : List (List ℕ)) → decoded_packets d ≡ Ok all → (o : Option PolicyKind)
+      → under.kind ≡ o → (p : Option (List ℕ)) → slice_get all k ≡ p
       → Always view_texts
       (Done (λ es. Traced (told ++ was_read file MAX_FILE (whole b)
       ∷ was_read packets MAX_FILE (whole d) ∷ es)))
-      (ending (packet_exit under code steps k o))
-  packet_traced told under tells b code code_is d all read None there = λ z. refused_none z
-  packet_traced told under tells b code code_is d all read (Some packet) there = (
+      (ending (where_started o (traced_exit under code steps k p)))
+  packet_traced told under tells b code code_is d all read None is p there = λ z. refused_none z
+  packet_traced told under tells b code code_is d all read (Some kind) is None there =
+      λ z. refused_none z
+  packet_traced told under tells b code code_is d all read (Some kind) is (Some packet) there = (
     refl,
     λ z. record {
       policy = under;
+      kind = kind;
       told = told;
       bytes = b;
       code = code;
@@ -473,6 +476,7 @@ module _ (laws : ViewLaws) (file packets : List ℕ) (k steps : ℕ) (word : Pol
       packet = packet;
       reads = refl;
       tells = tells;
+      built_in = is;
       code_is = code_is;
       packets_are = read;
       there = there;
@@ -497,7 +501,7 @@ module _ (laws : ViewLaws) (file packets : List ℕ) (k steps : ℕ) (word : Pol
       (λ (y : Stage (List (List ℕ))). (y >>= last_stage under code steps k) >>= ending)
       (λ exit. refl) (packets_in d) (packets_in_end d) (λ all is.
       packet_traced told under tells b code code_is d all
-      (packets_are (decoded_packets d) all is) (slice_get all k) refl))
+      (packets_are (decoded_packets d) all is) under.kind refl (slice_get all k) refl))
 
   packet_shows : Always view_texts (IsShown (views.packet word file packets k steps))
       (packet_command word file packets k steps >>= ending)

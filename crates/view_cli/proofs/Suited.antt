@@ -14,6 +14,7 @@ use Rattle.pcc_asm.specs.declared.fault.AsmFlaw.{AsmFlaw}
 use Rattle.pcc_asm.specs.Assembling.{assembled_code}
 use Rattle.policy_set.specs.Names.{policy_of}
 use Rattle.policy_set.specs.Views.{PolicyView}
+use Rattle.policy_set.specs.declared.kind.PolicyKind.{PolicyKind}
 use Rattle.proof_container.specs.Contents.{Contents}
 use Rattle.proof_container.specs.Decoding.{decoded_container}
 use Rattle.proof_container.specs.Versions.{profile_of}
@@ -36,12 +37,12 @@ use Rattle.pcc_stages.specs.Stages.Packets.{packets_in, packets_of}
 use Rattle.pcc_stages.specs.Stages.Policies.{policy_in, policy_from}
 use Rattle.view_cli.specs.Invocations.{ViewInvocation}
 use Rattle.view_cli.specs.Invocations as views
-use Rattle.view_cli.specs.Texts.{view_texts, formula_too_long_line, absent_packet_line}
+use Rattle.view_cli.specs.Texts.{view_texts, formula_too_long_line, absent_packet_line, no_start_line}
 use Rattle.view_cli.specs.declared.limits.TheConstants.{MAX_FORMULA}
 use Rattle.view_cli.specs.Commands.Faults.{told_exit, formula_command, source_command}
 use Rattle.view_cli.specs.Commands.Goals.{goals_found, goals_command}
 use Rattle.view_cli.specs.Commands.List.{container_found, lines_in, source_lines_of, list_command}
-use Rattle.view_cli.specs.Commands.Packet.{packet_exit, packet_command}
+use Rattle.view_cli.specs.Commands.Packet.{traced_exit, where_started, packet_command}
 use Rattle.view_cli.specs.Tasks.{standing_if_found, view_task}
 use Rattle.view_cli.proofs.CommandStages.{listing_stage, lines_stage, goals_stage, goals_under, last_stage, code_stage, policy_stage}
 use Rattle.view_cli.proofs.PureStages.{BeginsBefore, EndsAs, gave, refused_by, had_no_memory, refusal_begins, contents_end, lines_in_end, code_end, packets_in_end, policy_in_end}
@@ -116,13 +117,16 @@ module _ (names : List (List ℕ)) where
 
   -- ---- `packet`
 
-  packet_fits : (under : PolicyView) (code : List Insn) (steps k : ℕ) (o : Option (List ℕ))
-      → Fits (ending (packet_exit under code steps k o))
-  unfolding absent_packet_line
-  packet_fits under code steps k None =
+  packet_fits : (under : PolicyView) (code : List Insn) (steps k : ℕ) (o : Option PolicyKind)
+      (p : Option (List ℕ)) → Fits (ending (where_started o (traced_exit under code steps k p)))
+  unfolding absent_packet_line no_start_line
+  packet_fits under code steps k None p =
+      let first : get_or no_start_line 0 0 ≡ 110 = refl in
+      inl (stop_line no_start_line (omega (arith, first)))
+  packet_fits under code steps k (Some kind) None =
       let first : get_or (absent_packet_line k) 0 0 ≡ 110 = refl in
       inl (stop_line (absent_packet_line k) (omega (arith, first)))
-  packet_fits under code steps k (Some packet) = refl
+  packet_fits under code steps k (Some kind) (Some packet) = refl
 
 -- ---- commands that begin with a policy
 
@@ -169,7 +173,7 @@ traced_fits names file packets k steps first second under =
     (λ b. (packets_in b >>= last_stage under code steps k) >>= ending) second (omega arith) (λ b.
     goes_on names (λ (y : Stage (List (List ℕ))). (y >>= last_stage under code steps k) >>= ending)
     (λ exit. refl) (packets_in b) (packets_in_end b) (λ all.
-    packet_fits names under code steps k (slice_get all k)))))
+    packet_fits names under code steps k under.kind (slice_get all k)))))
 
 -- ---- all commands
 

@@ -22,6 +22,7 @@ use Rattle.pcc_asm.specs.Names.{asm_flaw_line, asm_flaw_name}
 use Rattle.policy_set.specs.Names.{policy_of}
 use Rattle.policy_set.specs.PolicyText.{SpellsPolicy}
 use Rattle.policy_set.specs.Views.{PolicyView}
+use Rattle.policy_set.specs.declared.kind.PolicyKind.{PolicyKind}
 use Rattle.packet_store.specs.PacketDecoding.{decoded_packets}
 use Rattle.packet_store.specs.Results.{packet_result}
 use Rattle.proof_container.specs.Contents.{Contents}
@@ -136,11 +137,12 @@ pub record EndsWithLine (policy : PolicyView) (code : List Insn) (steps k : ℕ)
       result_lines policy.kind results 0 packets
       ≡ before ++ (result_line policy.kind k (results packet) ++ after)
 
--- `packet`: FILE and PACKETS were read behind the policy, and the text is the run of FILE's code on
--- packet k, step by step.
+-- `packet`: FILE and PACKETS were read behind the policy, which is built in, and the text is the run
+-- of FILE's code on packet k, step by step.
 pub record TracesPacket (word : PolicyWord) (file packets : List ℕ) (k steps : ℕ)
     (events : List Event) (text : List ℕ) : Type 0 where
   pub policy : PolicyView
+  pub kind : PolicyKind
   pub told : List Event
   pub bytes : List ℕ
   pub code : List Insn
@@ -151,6 +153,7 @@ pub record TracesPacket (word : PolicyWord) (file packets : List ℕ) (k steps :
       ≡ told ++ was_read file MAX_FILE (whole bytes)
       ∷ was_read packets MAX_FILE (whole packet_bytes) ∷ []
   pub tells : IsToldBy word told policy
+  pub built_in : policy.kind ≡ Some kind
   pub code_is : code_in policy bytes ≡ gives code
   pub packets_are : decoded_packets packet_bytes ≡ Ok all
   pub there : slice_get all k ≡ Some packet

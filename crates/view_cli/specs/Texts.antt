@@ -23,6 +23,10 @@ formula_too_long_line = codes "formula TooLong\n"
 unfoldable pub absent_packet_line : ℕ → List ℕ
 absent_packet_line k = codes "no packet " ++ decimal k ++ codes "\n"
 
+-- a policy from a file says of no packet in which state its run starts
+unfoldable pub no_start_line : List ℕ
+no_start_line = codes "no start: the policy is from a file\n"
+
 -- the lines of a program, with this line of usage
 abbrev pub view_texts : Texts
 view_texts = texts_with view_usage_line

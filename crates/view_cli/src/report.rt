@@ -5,7 +5,7 @@ ghost use Rattle.file_port.specs.Sink.{Puts};
 ghost use Rattle.view_cli.specs.Reports.{exit_of_report};
 
 use crate::texts::{
-    print_formula_too_long, print_help, print_no_packet, print_usage, print_version,
+    print_formula_too_long, print_help, print_no_packet, print_no_start, print_usage, print_version,
 };
 use crate::trace_job::TraceJob;
 use file_port::{Put, Sink};
@@ -27,6 +27,8 @@ pub enum Report {
     FormulaTooLong,
     /// The line that there is no packet with this number.
     NoPacket(u64),
+    /// The line that the policy has no start, since it is from a file.
+    NoStart,
     /// The run on a packet, step by step.
     Traced(TraceJob),
 }
@@ -39,7 +41,10 @@ impl Report {
         match self {
             Report::Usage => 2,
             Report::Help | Report::Version | Report::Text(_) | Report::Traced(_) => 0,
-            Report::Fault(_) | Report::FormulaTooLong | Report::NoPacket(_) => 1,
+            Report::Fault(_)
+            | Report::FormulaTooLong
+            | Report::NoPacket(_)
+            | Report::NoStart => 1,
         }
     }
 
@@ -55,6 +60,7 @@ impl Report {
             Report::Fault(text) => out.put(&text),
             Report::FormulaTooLong => print_formula_too_long(out),
             Report::NoPacket(number) => print_no_packet(number, out),
+            Report::NoStart => print_no_start(out),
             Report::Traced(job) => job.print(out),
         }
     }

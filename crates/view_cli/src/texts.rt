@@ -2,7 +2,7 @@
 
 ghost use Rattle.file_port.specs.Sink.{Puts};
 ghost use Rattle.view_cli.specs.Texts.{view_usage_line, help_text, version_text};
-ghost use Rattle.view_cli.specs.Texts.{formula_too_long_line, absent_packet_line};
+ghost use Rattle.view_cli.specs.Texts.{formula_too_long_line, absent_packet_line, no_start_line};
 
 use arrayvec::ArrayVec;
 use file_port::{Put, Sink};
@@ -69,4 +69,12 @@ pub fn print_no_packet<S: Sink>(number: u64, out: &mut S) -> Put
     push_decimal(&mut line, number);
     push_text(&mut line, "\n");
     out.put(line.as_slice())
+}
+
+/// Prints that a policy from a file has no start.
+#[tactic(auto, unfolding(crate::specs::Texts::no_start_line))]
+pub fn print_no_start<S: Sink>(out: &mut S) -> Put
+    ensures { Puts no_start_line (S.state out.old) (S.state out.new) result }
+{
+    out.put(b"no start: the policy is from a file\n")
 }
