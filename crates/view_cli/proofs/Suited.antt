@@ -3,7 +3,6 @@
 use Rattle.std.proofs.Common.{◌≡◌, ◌≢◌, ℕ, Bool, true, false, List, [], ◌∷◌, length, get_or, slice_get, if◌then◌else◌, nat_lt, Option, Some, None, is_some, Result, Ok, Err, Contains, refl, sym, ap, ◌∙◌, subst, arith, inl, inr}
 use Rattle.alpha_words.specs.declared.insn.Insn.{Insn}
 use Rattle.word_ops.specs.declared.Profile.{Profile}
-use Rattle.word_ops.specs.declared.Profile.TheVariants.{Two}
 use Rattle.formula_tree.specs.Formulas.{Form}
 use Rattle.formula_text.specs.Parsing.{FaultAt, parsed_form}
 use Rattle.asm_text.specs.declared.fault.LineFlaw.{LineFlaw}
@@ -13,7 +12,10 @@ use Rattle.asm_text.specs.SourceParsing.{parsed_source}
 use Rattle.pcc_asm.specs.declared.fault.AsmFlaw.{AsmFlaw}
 use Rattle.pcc_asm.specs.Assembling.{assembled_code}
 use Rattle.policy_set.specs.Names.{policy_of}
+use Rattle.policy_set.specs.PolicyText.{policy_read}
 use Rattle.policy_set.specs.Views.{PolicyView}
+use Rattle.policy_set.specs.declared.fault.PolicyFlaw.{PolicyFlaw}
+use Rattle.policy_set.specs.declared.fault.PolicyFlaw.TheVariants as policy_flaw
 use Rattle.policy_set.specs.declared.kind.PolicyKind.{PolicyKind}
 use Rattle.proof_container.specs.Contents.{Contents}
 use Rattle.proof_container.specs.Decoding.{decoded_container}
@@ -21,9 +23,11 @@ use Rattle.proof_container.specs.Versions.{profile_of}
 use Rattle.pcc_gate.specs.declared.refusal.Refusal.{Refusal}
 use Rattle.view_goal_text.specs.Listing.{goals_of_bytes}
 use Rattle.view_faults.specs.FormReports.{without_lf, form_fault_line, form_fault_text, report_of_form, formula_report}
+use Rattle.view_faults.specs.PolicyReports.{report_of_policy, policy_report}
 use Rattle.view_faults.specs.SourceReports.{report_of_code, report_of_source, source_report}
 use Rattle.pcc_words.specs.Invocations.{named, from_file}
 use Rattle.pcc_lines.specs.Fixed.{container_too_long_line, packets_too_long_line, policy_too_long_line, source_too_long_line, unknown_policy_line}
+use Rattle.pcc_lines.specs.Policies.{policy_lines_line, policy_length_line, policy_form_line}
 use Rattle.pcc_lines.specs.Refusals.{refusal_line}
 use Rattle.pcc_lines.specs.Sources.{source_fault_line}
 use Rattle.pcc_stages.specs.Exits.{Exit}
@@ -39,7 +43,7 @@ use Rattle.view_cli.specs.Invocations.{ViewInvocation}
 use Rattle.view_cli.specs.Invocations as views
 use Rattle.view_cli.specs.Texts.{view_texts, formula_too_long_line, absent_packet_line, no_start_line}
 use Rattle.view_cli.specs.declared.limits.TheConstants.{MAX_FORMULA}
-use Rattle.view_cli.specs.Commands.Faults.{told_exit, formula_command, source_command}
+use Rattle.view_cli.specs.Commands.Faults.{told_exit, formula_command, policy_command, source_command}
 use Rattle.view_cli.specs.Commands.Goals.{goals_found, goals_command}
 use Rattle.view_cli.specs.Commands.List.{container_found, lines_in, source_lines_of, list_command}
 use Rattle.view_cli.specs.Commands.Packet.{traced_exit, where_started, packet_command}
@@ -93,15 +97,24 @@ module _ (names : List (List ℕ)) where
       let first : get_or (form_fault_text text fault) 0 0 ≡ 102 = refl in
       inl (stop_line (form_fault_text text fault) (omega (arith, first)))
 
-  short_form_fits : (text : List ℕ) (long : Bool)
+  short_form_fits : (p : Profile) (left : Bool) (text : List ℕ) (long : Bool)
       → Fits
       (ending
-      (if long then refused formula_too_long_line else told_exit (formula_report text)))
+      (if long then refused formula_too_long_line else told_exit (formula_report p left text)))
   unfolding formula_report formula_too_long_line
-  short_form_fits text true =
+  short_form_fits p left text true =
       let first : get_or formula_too_long_line 0 0 ≡ 102 = refl in
       inl (stop_line formula_too_long_line (omega (arith, first)))
-  short_form_fits text false = form_fits (without_lf text) (parsed_form Two true (without_lf text))
+  short_form_fits p left text false =
+      form_fits (without_lf text) (parsed_form p left (without_lf text))
+
+  policy_fits : (text : List ℕ) (r : Result PolicyView PolicyFlaw)
+      → Fits (ending (told_exit (report_of_policy text r)))
+  unfolding policy_lines_line policy_length_line policy_form_line
+  policy_fits text (Ok policy) = refl
+  policy_fits text (Err (policy_flaw.Lines count)) = inl (stop_line _ (omega arith))
+  policy_fits text (Err (policy_flaw.Length line)) = inl (stop_line _ (omega arith))
+  policy_fits text (Err (policy_flaw.Form line at what)) = inl (stop_line _ (omega arith))
 
   code_fits : (text : List ℕ) (s : Source) (r : Result (List Insn) AsmFlaw)
       → Fits (ending (told_exit (report_of_code text s r)))
@@ -223,7 +236,7 @@ third_of_three a b c = (2, omega arith, refl)
 -- what the arguments ask for is suited
 pub suited : (o : Option ViewInvocation)
     → let task = view_task o in IsSuited view_texts task.standing task.names task.stage
-unfolding goals_command packet_command formula_command source_command source_report
+unfolding goals_command packet_command formula_command policy_command policy_report source_command source_report
 suited None = inl (record { suits = refl; some = omega arith; in_range = omega arith })
 suited (Some (views.list file None)) =
     let names : List (List ℕ) = file ∷ [] in
@@ -249,13 +262,18 @@ suited (Some (views.packet (from_file name) file packets k steps)) =
     told_fits names (policy_stage file packets steps k) name (first_of_three name file packets)
     (traced_fits names file packets k steps (second_of_three name file packets)
     (third_of_three name file packets))
-suited (Some (views.formula file)) =
+suited (Some (views.formula file p left)) =
     let names : List (List ℕ) = file ∷ [] in
     reads_on names file MAX_SOURCE source_too_long_line
     (λ b. ending
     (if nat_lt MAX_FORMULA (length b) then refused formula_too_long_line
-    else told_exit (formula_report b)))
-    (only file) (omega arith) (λ b. short_form_fits names b (nat_lt MAX_FORMULA (length b)))
+    else told_exit (formula_report p left b)))
+    (only file) (omega arith) (λ b. short_form_fits names p left b (nat_lt MAX_FORMULA (length b)))
+suited (Some (views.policy_formulas file)) =
+    let names : List (List ℕ) = file ∷ [] in
+    reads_on names file MAX_POLICY_FILE policy_too_long_line
+    (λ b. ending (told_exit (policy_report b))) (only file) (omega arith)
+    (λ b. policy_fits names b (policy_read b))
 suited (Some (views.source file version bound)) =
     let names : List (List ℕ) = file ∷ [] in
     reads_on names file MAX_SOURCE source_too_long_line

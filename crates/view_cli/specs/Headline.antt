@@ -1,9 +1,9 @@
 -- What a run of each command shows, whatever the files hold, by what it read; and what that is
 -- worth.
-use Rattle.std.specs.Prelude.{◌≡◌, ◌↔◌, ℕ, ◌<◌, ◌≤◌, true, List, [], ◌∷◌, ◌++◌, length, map, slice_get, is_some, Option, Some, None, Ok, Err}
+use Rattle.std.specs.Prelude.{◌≡◌, ◌↔◌, ℕ, ◌<◌, ◌≤◌, Bool, List, [], ◌∷◌, ◌++◌, length, map, slice_get, is_some, Option, Some, None, Ok, Err}
 use Rattle.file_port.specs.Events.{Given, whole, missing, too_long, failed, no_memory, Event, was_read}
 use Rattle.file_port.specs.Sink.{SinkState}
-use Rattle.word_ops.specs.declared.Profile.TheVariants.{Two}
+use Rattle.word_ops.specs.declared.Profile.{Profile}
 use Rattle.alpha_words.specs.declared.insn.Insn.{Insn}
 use Rattle.alpha_cfg.specs.CodeDecoding.{decoded_code}
 use Rattle.formula_tree.specs.Formulas.{Form}
@@ -20,8 +20,9 @@ use Rattle.pcc_asm.specs.declared.fault.AsmFlaw.{AsmFlaw}
 use Rattle.pcc_asm.specs.Assembling.{assembled_code}
 use Rattle.pcc_asm.specs.Names.{asm_flaw_line, asm_flaw_name}
 use Rattle.policy_set.specs.Names.{policy_of}
-use Rattle.policy_set.specs.PolicyText.{SpellsPolicy}
+use Rattle.policy_set.specs.PolicyText.{SpellsPolicy, policy_read}
 use Rattle.policy_set.specs.Views.{PolicyView}
+use Rattle.policy_set.specs.declared.fault.PolicyFlaw.{PolicyFlaw}
 use Rattle.policy_set.specs.declared.kind.PolicyKind.{PolicyKind}
 use Rattle.packet_store.specs.PacketDecoding.{decoded_packets}
 use Rattle.packet_store.specs.Results.{packet_result}
@@ -42,11 +43,12 @@ use Rattle.view_trace.specs.Traces.{packet_text}
 use Rattle.view_faults.specs.FormReports.{without_lf, formula_line, form_fault_text}
 use Rattle.view_faults.specs.Laws.{IsTokenFlaw}
 use Rattle.view_faults.specs.Marking.{Span, marked_line}
+use Rattle.view_faults.specs.PolicyReports.{policy_forms, policy_fault_text}
 use Rattle.view_faults.specs.SourceLines.{numbered_line}
 use Rattle.view_faults.specs.SourceReports.{source_line, source_fault_text}
 use Rattle.view_faults.specs.Spans.{flaw_span, asm_flaw_span}
 use Rattle.pcc_words.specs.Invocations.{PolicyWord, named, from_file}
-use Rattle.pcc_lines.specs.Fixed.{source_too_long_line}
+use Rattle.pcc_lines.specs.Fixed.{policy_too_long_line, source_too_long_line}
 use Rattle.pcc_lines.specs.Results.{result_line, result_lines}
 use Rattle.pcc_lines.specs.Sources.{source_fault_line}
 use Rattle.pcc_stages.specs.Exits.{Exit}
@@ -55,6 +57,7 @@ use Rattle.pcc_stages.specs.Runs.{NoneFailed, Prints, done_exit}
 use Rattle.pcc_stages.specs.Stage.{gives}
 use Rattle.pcc_stages.specs.Stages.Common.{refused}
 use Rattle.pcc_stages.specs.Stages.Containers.{code_in}
+use Rattle.pcc_stages.specs.Stages.Policies.{no_policy_spelled}
 use Rattle.pcc_stages.specs.declared.files.TheConstants.{MAX_FILE, MAX_POLICY_FILE}
 use Rattle.view_cli.specs.Invocations.{ViewInvocation}
 use Rattle.view_cli.specs.Invocations as views
@@ -162,18 +165,30 @@ pub record TracesPacket (word : PolicyWord) (file packets : List ℕ) (k steps :
 
 -- ---- `formula` and `source`
 
--- What is said of a text that is to spell a formula: the formula, with status 0, exactly where it
--- spells one and isn't too long; else the first token with which no formula goes on, with a mark.
-pub record SaysOfForm (text : List ℕ) (exit : Exit) : Type 0 where
+-- What is said of a text that is to spell a formula over the operators of the profile, which may name
+-- the steps that are left where the flag says so: the formula, with status 0, exactly where it spells
+-- one and isn't too long; else the first token with which no formula goes on, with a mark.
+pub record SaysOfForm (p : Profile) (left : Bool) (text : List ℕ) (exit : Exit) : Type 0 where
   pub done : (exit.status ≡ 0)
-      ↔ ((length text ≤ MAX_FORMULA) × ((F : Form) × Spells Two true (without_lf text) F))
-  pub right : (F : Form) → length text ≤ MAX_FORMULA → Spells Two true (without_lf text) F
+      ↔ ((length text ≤ MAX_FORMULA) × ((F : Form) × Spells p left (without_lf text) F))
+  pub right : (F : Form) → length text ≤ MAX_FORMULA → Spells p left (without_lf text) F
       → exit ≡ done_exit (formula_line F)
   pub wrong : (at : ℕ) (flaw : TextFlaw) → length text ≤ MAX_FORMULA
-      → parsed_form Two true (without_lf text) ≡ Err (at, flaw)
-      → IsFaultPosition Two true (without_lf text) at
+      → parsed_form p left (without_lf text) ≡ Err (at, flaw)
+      → IsFaultPosition p left (without_lf text) at
       × (exit ≡ refused (form_fault_text (without_lf text) (at, flaw)))
   pub too_long : MAX_FORMULA < length text → exit ≡ refused formula_too_long_line
+
+-- What is said of a text that is to spell a policy: its two formulas, with status 0, exactly where it
+-- spells one; else the line that `pcc check` prints of its first fault, and what shows the place.
+pub record SaysOfPolicy (text : List ℕ) (exit : Exit) : Type 0 where
+  pub done : (exit.status ≡ 0) ↔ ((policy : PolicyView) × SpellsPolicy text policy)
+  pub right : (policy : PolicyView) → SpellsPolicy text policy
+      → exit ≡ done_exit (policy_forms policy)
+  pub wrong : (flaw : PolicyFlaw) → policy_read text ≡ Err flaw
+      → exit ≡ refused (policy_fault_text text flaw)
+  pub as_checked : (flaw : PolicyFlaw) → policy_read text ≡ Err flaw
+      → (shown : List ℕ) × (exit.text ≡ (no_policy_spelled flaw).text ++ shown)
 
 -- what is said of a fault in a line: its number, the fault's name, the line, and a mark under the
 -- place
@@ -211,20 +226,25 @@ pub record SaysOfSource (version : ℕ) (bound : Option ℕ) (text : List ℕ) (
         → IsSourceFault (profile_of version) (is_some bound) text n flaw
         → IsToldWithMark version bound text n flaw exit
 
--- what is printed by what the only read, of FILE, gave, where this is said of a text
-abbrev pub SaysOfRead : List ℕ → (List ℕ → Exit → Type 0) → Given → Exit → Type 0
-SaysOfRead file Says (whole text) exit = Says text exit
-SaysOfRead file Says missing exit = exit ≡ missing_exit view_texts file
-SaysOfRead file Says too_long exit = exit ≡ refused source_too_long_line
-SaysOfRead file Says failed exit = exit ≡ read_fault_exit view_texts file
-SaysOfRead file Says no_memory exit = exit ≡ no_memory_exit
+-- what is printed by what the only read, of FILE, gave, where this is said of a text, and this line of
+-- one that is too long
+abbrev pub SaysOfRead : List ℕ → List ℕ → (List ℕ → Exit → Type 0) → Given → Exit → Type 0
+SaysOfRead file long Says (whole text) exit = Says text exit
+SaysOfRead file long Says missing exit = exit ≡ missing_exit view_texts file
+SaysOfRead file long Says too_long exit = exit ≡ refused long
+SaysOfRead file long Says failed exit = exit ≡ read_fault_exit view_texts file
+SaysOfRead file long Says no_memory exit = exit ≡ no_memory_exit
 
--- one read, of FILE, and what is said of it
-pub record SaysOf (file : List ℕ) (Says : List ℕ → Exit → Type 0) (events : List Event)
-    (exit : Exit) : Type 0 where
+-- one read, of FILE, of at most so many bytes, and what is said of it
+pub record SaysOf (file : List ℕ) (max : ℕ) (long : List ℕ) (Says : List ℕ → Exit → Type 0)
+    (events : List Event) (exit : Exit) : Type 0 where
   pub given : Given
-  pub one_read : events ≡ was_read file MAX_SOURCE given ∷ []
-  pub said : SaysOfRead file Says given exit
+  pub one_read : events ≡ was_read file max given ∷ []
+  pub said : SaysOfRead file long Says given exit
+
+-- the same of the text of a formula or of a source
+abbrev pub SaysOfText : List ℕ → (List ℕ → Exit → Type 0) → List Event → Exit → Type 0
+SaysOfText file Says events exit = SaysOf file MAX_SOURCE source_too_long_line Says events exit
 
 -- ---- by what the arguments are
 
@@ -236,8 +256,10 @@ IsShown (views.goals policy file) events exit =
     exit.status ≡ 0 → ListsGoals policy file events exit.text
 IsShown (views.packet policy file packets k steps) events exit =
     exit.status ≡ 0 → TracesPacket policy file packets k steps events exit.text
-IsShown (views.formula file) events exit = SaysOf file SaysOfForm events exit
-IsShown (views.source file v bound) events exit = SaysOf file (SaysOfSource v bound) events exit
+IsShown (views.formula file p left) events exit = SaysOfText file (SaysOfForm p left) events exit
+IsShown (views.policy_formulas file) events exit =
+    SaysOf file MAX_POLICY_FILE policy_too_long_line SaysOfPolicy events exit
+IsShown (views.source file v bound) events exit = SaysOfText file (SaysOfSource v bound) events exit
 IsShown views.help events exit = (events ≡ []) × (exit ≡ done_exit help_text)
 IsShown views.version events exit = (events ≡ []) × (exit ≡ done_exit version_text)
 

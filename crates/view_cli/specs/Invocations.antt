@@ -3,8 +3,11 @@ use Rattle.std.specs.Prelude.{ℕ, ◌&&◌, ◌||◌, Bool, true, false, List, 
 use Rattle.std.specs.Str.{bytes_eq}
 use Rattle.clap.specs.Words.{App, Kinds, Row, Rule, Text, fault_of, first_of, new_app, new_rule, subcommand_of, with_rule, with_subcommand}
 use Rattle.clap.specs.Simple.{on_top}
+use Rattle.clap.specs.declared.builder.action.ArgAction.TheVariants.{SetTrue}
 use Rattle.clap.specs.declared.builder.value_parser.ValueParser.TheVariants as parser
-use Rattle.pcc_words.specs.Invocations.{positional, steps_rule, version_rule, bound_rule, file_app, packets_app, PolicyWord, policy_word, value_of, optional_number, number_at, is_bound, version_at, is_step_count}
+use Rattle.word_ops.specs.declared.Profile.{Profile}
+use Rattle.word_ops.specs.declared.Profile.TheVariants.{One, Two}
+use Rattle.pcc_words.specs.Invocations.{positional, steps_rule, version_rule, bound_rule, file_app, packets_app, PolicyWord, policy_word, value_of, is_given, optional_number, number_at, is_bound, version_at, is_step_count}
 use Rattle.view_cli.specs.declared.limits.TheConstants.{MAX_PACKET_NUMBER}
 
 -- ---- the command line
@@ -33,6 +36,18 @@ traced_app name = with_rule (numbered_app name) steps_rule
 abbrev pub versioned_file_app : Text → App
 versioned_file_app name = with_rule (one_file_app name) version_rule
 
+-- `--NAME`, without a value
+abbrev pub flag_rule : Text → Rule
+flag_rule name = record (new_rule name) { long = Some name; action = Some SetTrue }
+
+-- `NAME FILE [--v2] [--bound]`
+abbrev pub left_file_app : Text → App
+left_file_app name = with_rule (versioned_file_app name) (flag_rule (codes "bound"))
+
+-- `NAME FILE [--v2] [--bound] [--policy]`
+abbrev pub formula_app : Text → App
+formula_app name = with_rule (left_file_app name) (flag_rule (codes "policy"))
+
 -- `NAME FILE [--v2] [--bound N]`
 abbrev pub source_app : Text → App
 source_app name = with_rule (versioned_file_app name) bound_rule
@@ -55,7 +70,7 @@ traces_app = with_subcommand goals_app (traced_app (codes "packet")).top
 
 -- with `formula`
 abbrev pub formulas_app : App
-formulas_app = with_subcommand traces_app (one_file_app (codes "formula")).top
+formulas_app = with_subcommand traces_app (formula_app (codes "formula")).top
 
 -- the program
 abbrev pub view_app : App
@@ -71,8 +86,10 @@ pub data ViewInvocation : Type 0 where
   goals : PolicyWord → Text → ViewInvocation
   -- `packet POLICY FILE PACKETS K`, and the steps of its run
   packet : PolicyWord → Text → Text → ℕ → ℕ → ViewInvocation
-  -- `formula FILE`
-  formula : Text → ViewInvocation
+  -- `formula FILE [--v2] [--bound]`, the profile of its operators, and whether it may name the steps that are left
+  formula : Text → Profile → Bool → ViewInvocation
+  -- `formula FILE --policy`
+  policy_formulas : Text → ViewInvocation
   -- `source FILE [--v2] [--bound N]`, the version of the container that it is for, and its bound if it has one
   source : Text → ℕ → Option ℕ → ViewInvocation
   -- help, as `--help` asks for it
@@ -105,6 +122,17 @@ packet_invocation rows =
     then Some (packet (policy_word_in rows) (value_of (codes "FILE") rows) (value_of (codes "PACKETS") rows) number steps)
     else None
 
+-- `formula` of a file, by which of its three flags are given: that of a policy goes with no other
+abbrev pub formula_invocation : Text → Bool → Bool → Bool → Option ViewInvocation
+formula_invocation file wide left true = if wide || left then None else Some (policy_formulas file)
+formula_invocation file wide left false = Some (formula file (if wide || left then Two else One) left)
+
+-- the same of these rows
+abbrev pub formula_at : List Row → Option ViewInvocation
+formula_at rows =
+    formula_invocation (value_of (codes "FILE") rows) (is_given (codes "v2") rows)
+    (is_given (codes "bound") rows) (is_given (codes "policy") rows)
+
 -- `source` of these rows. The parse takes no other bounds, so the test refuses none of them.
 abbrev pub source_invocation : List Row → Option ViewInvocation
 source_invocation rows =
@@ -117,7 +145,7 @@ view_invocation_at name rows =
     if bytes_eq name (codes "list") then Some (list_invocation rows) else
     if bytes_eq name (codes "goals") then Some (goals_invocation rows) else
     if bytes_eq name (codes "packet") then packet_invocation rows else
-    if bytes_eq name (codes "formula") then Some (formula (value_of (codes "FILE") rows)) else
+    if bytes_eq name (codes "formula") then formula_at rows else
     if bytes_eq name (codes "source") then source_invocation rows else
     None
 

@@ -25,7 +25,7 @@ mod trace_job;
 mod values;
 mod words;
 
-pub use arguments::{Command, GoalsArgs, ListArgs, PacketArgs, SourceArgs};
+pub use arguments::{Command, FormulaArgs, GoalsArgs, ListArgs, PacketArgs, SourceArgs};
 pub use limits::{MAX_FORMULA, MAX_PACKET_NUMBER};
 pub use top_call::{laws, pcc_view};
 pub use words::read_arguments;

@@ -30,7 +30,9 @@ pub fn print_help<S: Sink>(out: &mut S) -> Put
         with what is known, and which are easy\n\
         pcc_view packet POLICY FILE PACKETS K [--steps N]\n\
         \x20                                    the run on packet K, step by step\n\
-        pcc_view formula FILE                where a formula is wrong\n\
+        pcc_view formula FILE [--v2] [--bound] [--policy]\n\
+        \x20                                    \
+        where a formula is wrong, or the two of a policy's file\n\
         pcc_view source FILE [--v2] [--bound N]\n\
         \x20                                    where a source is wrong, as pcc asm reads it\n\
         pcc_view --help, pcc_view --version\n\

@@ -4,5 +4,6 @@ pub mod SameTokens
 pub mod Assembled
 pub mod FaultLines
 pub mod SourceSaid
+pub mod PolicySaid
 pub mod WrongFound
 pub mod Marked

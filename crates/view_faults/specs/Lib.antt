@@ -4,5 +4,6 @@ pub mod SourceLines
 pub mod WrongOperands
 pub mod Spans
 pub mod SourceReports
+pub mod PolicyReports
 pub mod Laws
 pub mod Inside

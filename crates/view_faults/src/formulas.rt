@@ -122,20 +122,25 @@ fn form_line(alloc: Global, form: &Form) -> Result<Vec<u8>, AllocError>
 /// the kind of the fault; the line in which that place lies, without its LF; and a mark under the
 /// place. A byte that is neither a tab nor printable is shown as `?`. The report is right if the
 /// text is a formula. An LF at the end of `text` doesn't count. The formula may use the operators
-/// of profile 2 and may name the remaining steps, the widest language that is read.
+/// of `profile`, and may name the remaining steps if `left` says so.
 ///
 /// `text` has at most `MAX_FORMULA_TEXT` bytes, since printing recurses. The grammar is that of
 /// `formula_text::read_form`.
 ///
 /// Errors: out of memory.
 #[tactic(auto, unfolding(crate::specs::FormReports::formula_report))]
-pub fn formula_lines(alloc: Global, text: &[u8]) -> Result<FormulaReport, AllocError>
+pub fn formula_lines(
+    alloc: Global,
+    profile: Profile,
+    left: bool,
+    text: &[u8],
+) -> Result<FormulaReport, AllocError>
     requires short { length text.now ≤ MAX_FORMULA_TEXT }
     ensures exact { IfOk result
-        (λ r. (r.right, r.text.items) ≡ formula_report text.now) }
+        (λ r. (r.right, r.text.items) ≡ formula_report profile left text.now) }
 {
     let text = without_lf(text);
-    match form_in(alloc, text, Profile::Two, true) {
+    match form_in(alloc, text, profile, left) {
         Ok(form) => {
             let text = form_line(alloc, &form)?;
             Ok(FormulaReport { right: true, text })

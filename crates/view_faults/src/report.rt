@@ -14,3 +14,6 @@ pub type FormulaReport = Report;
 
 /// What is reported about the text of a source.
 pub type SourceReport = Report;
+
+/// What is reported about the text of a policy.
+pub type PolicyReport = Report;
