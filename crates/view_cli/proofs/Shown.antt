@@ -60,8 +60,8 @@ use Rattle.view_faults.specs.Laws.{IsTokenFlaw}
 use Rattle.view_faults.specs.Marking.{Span, marked_line}
 use Rattle.view_faults.specs.PolicyReports.{policy_forms, policy_fault_text, report_of_policy, policy_report}
 use Rattle.view_faults.specs.SourceLines.{numbered_line}
-use Rattle.view_faults.specs.SourceReports.{source_line, source_fault_text, fault_lines, report_of_code, report_of_source, source_report}
-use Rattle.view_faults.specs.Spans.{flaw_span, asm_flaw_span}
+use Rattle.view_faults.specs.SourceReports.{source_line, no_limits, source_fault_text, fault_lines, report_of_code, report_of_source, source_report}
+use Rattle.view_faults.specs.Spans.{flaw_span, asm_flaw_span, flaw_limits}
 use Rattle.pcc_words.specs.Invocations.{PolicyWord, named, from_file}
 use Rattle.pcc_lines.specs.Fixed.{container_too_long_line, packets_too_long_line, policy_too_long_line, source_too_long_line}
 use Rattle.pcc_lines.specs.Policies.{policy_lines_line, policy_length_line}
@@ -650,7 +650,7 @@ as_checked : (text : List ℕ) (flaw : PolicyFlaw)
 as_checked text (policy_flaw.Lines count) = ([], sym (append-nil (policy_lines_line count)))
 as_checked text (policy_flaw.Length line) = ([], sym (append-nil (policy_length_line line)))
 as_checked text (policy_flaw.Form line at what) =
-    (fault_lines (λ l. Some (at, 0)) (numbered_line text line), refl)
+    (fault_lines (λ l. Some (at, 0)) no_limits (numbered_line text line), refl)
 
 module _ (laws : ViewLaws) (text : List ℕ) where
   policy_right : (policy : PolicyView) → policy_read text ≡ Ok policy
@@ -730,7 +730,7 @@ module _ (laws : ViewLaws) (version : ℕ) (bound : Option ℕ) (text : List ℕ
   source_exit fault =
       refused
       (source_fault_text text fault.0 (line_flaw_name fault.1)
-      (flaw_span profile (is_some bound) fault.1))
+      (flaw_span profile (is_some bound) fault.1) (flaw_limits profile fault.1))
 
   source_right : (s : Source) → parsed ≡ Ok s → (code : List Insn)
       → assembled_code profile s ≡ Ok code → SaysOfSource version bound text (done_exit (source_line s))
@@ -752,7 +752,8 @@ module _ (laws : ViewLaws) (version : ℕ) (bound : Option ℕ) (text : List ℕ
   source_unassembled : (s : Source) → parsed ≡ Ok s → (flaw : AsmFlaw)
       → assembled_code profile s ≡ Err flaw
       → SaysOfSource version bound text
-      (refused (source_fault_text text (asm_flaw_line flaw) (asm_flaw_name flaw) (asm_flaw_span flaw)))
+      (refused
+      (source_fault_text text (asm_flaw_line flaw) (asm_flaw_name flaw) (asm_flaw_span flaw) no_limits))
   source_unassembled s is flaw none = record {
     done = (
       λ z. refused_none z,
@@ -770,7 +771,8 @@ module _ (laws : ViewLaws) (version : ℕ) (bound : Option ℕ) (text : List ℕ
         let same : s ≡ r = same_ok parsed s r is (parsed_as r spells) in
         ap
         (λ (x : AsmFlaw).
-        refused (source_fault_text text (asm_flaw_line x) (asm_flaw_name x) (asm_flaw_span x)))
+        refused
+        (source_fault_text text (asm_flaw_line x) (asm_flaw_name x) (asm_flaw_span x) no_limits))
         (same_err (assembled_code profile s) flaw other none
         (ap (assembled_code profile) same ∙ other_is));
     marked = λ n other token fails. ok_or_err parsed s (n, other) is (fails_as n other fails);
@@ -782,6 +784,7 @@ module _ (laws : ViewLaws) (version : ℕ) (bound : Option ℕ) (text : List ℕ
   source_marked n flaw is token =
       let m = laws.marked profile (is_some bound) text n flaw token is in
       let span = flaw_span profile (is_some bound) flaw in
+      let limits = flaw_limits profile flaw in
       let some = some_of (span m.0) m.2 in
       let head = source_fault_line n (line_flaw_name flaw) in
       record {
@@ -790,8 +793,8 @@ module _ (laws : ViewLaws) (version : ℕ) (bound : Option ℕ) (text : List ℕ
         line_is = m.1;
         span_is = some.1;
         said =
-            ap (λ (o : Option (List ℕ)). refused (head ++ fault_lines span o)) m.1
-            ∙ ap (λ (o : Option Span). refused (head ++ marked_line m.0 o)) some.1;
+            ap (λ (o : Option (List ℕ)). refused (head ++ fault_lines span limits o)) m.1
+            ∙ ap (λ (o : Option Span). refused (head ++ marked_line m.0 o (limits m.0))) some.1;
       }
 
   source_wrong : (n : ℕ) (flaw : LineFlaw) → parsed ≡ Err (n, flaw)

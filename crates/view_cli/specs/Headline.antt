@@ -45,8 +45,8 @@ use Rattle.view_faults.specs.Laws.{IsTokenFlaw}
 use Rattle.view_faults.specs.Marking.{Span, marked_line}
 use Rattle.view_faults.specs.PolicyReports.{policy_forms, policy_fault_text}
 use Rattle.view_faults.specs.SourceLines.{numbered_line}
-use Rattle.view_faults.specs.SourceReports.{source_line, source_fault_text}
-use Rattle.view_faults.specs.Spans.{flaw_span, asm_flaw_span}
+use Rattle.view_faults.specs.SourceReports.{source_line, no_limits, source_fault_text}
+use Rattle.view_faults.specs.Spans.{flaw_span, asm_flaw_span, flaw_limits}
 use Rattle.pcc_words.specs.Invocations.{PolicyWord, named, from_file}
 use Rattle.pcc_lines.specs.Fixed.{policy_too_long_line, source_too_long_line}
 use Rattle.pcc_lines.specs.Results.{result_line, result_lines}
@@ -191,7 +191,7 @@ pub record SaysOfPolicy (text : List ℕ) (exit : Exit) : Type 0 where
       → (shown : List ℕ) × (exit.text ≡ (no_policy_spelled flaw).text ++ shown)
 
 -- what is said of a fault in a line: its number, the fault's name, the line, and a mark under the
--- place
+-- place, with the numbers that are allowed in the place of one that is out of its range
 pub record IsToldWithMark (version : ℕ) (bound : Option ℕ) (text : List ℕ) (n : ℕ) (flaw : LineFlaw)
     (exit : Exit) : Type 0 where
   pub line : List ℕ
@@ -199,7 +199,9 @@ pub record IsToldWithMark (version : ℕ) (bound : Option ℕ) (text : List ℕ)
   pub line_is : numbered_line text n ≡ Some line
   pub span_is : flaw_span (profile_of version) (is_some bound) flaw line ≡ Some span
   pub said : exit
-      ≡ refused (source_fault_line n (line_flaw_name flaw) ++ marked_line line (Some span))
+      ≡ refused
+      (source_fault_line n (line_flaw_name flaw)
+      ++ marked_line line (Some span) (flaw_limits (profile_of version) flaw line))
 
 -- What is said of a text that is to spell a source: how much it holds, with status 0, exactly where
 -- it spells one that is assembled; else its first fault. Where that lies in one token, a mark stands
@@ -216,12 +218,13 @@ pub record SaysOfSource (version : ℕ) (bound : Option ℕ) (text : List ℕ) (
     pub wrong : (n : ℕ) (flaw : LineFlaw)
         → IsSourceFault (profile_of version) (is_some bound) text n flaw
         → let span = flaw_span (profile_of version) (is_some bound) flaw in
-        exit ≡ refused (source_fault_text text n (line_flaw_name flaw) span)
+        let limits = flaw_limits (profile_of version) flaw in
+        exit ≡ refused (source_fault_text text n (line_flaw_name flaw) span limits)
     pub unassembled : (s : Source) (flaw : AsmFlaw)
         → SpellsSource (profile_of version) (is_some bound) text s
         → assembled_code (profile_of version) s ≡ Err flaw
         → let line = asm_flaw_line flaw in
-        exit ≡ refused (source_fault_text text line (asm_flaw_name flaw) (asm_flaw_span flaw))
+        exit ≡ refused (source_fault_text text line (asm_flaw_name flaw) (asm_flaw_span flaw) no_limits)
     pub marked : (n : ℕ) (flaw : LineFlaw) → IsTokenFlaw flaw
         → IsSourceFault (profile_of version) (is_some bound) text n flaw
         → IsToldWithMark version bound text n flaw exit

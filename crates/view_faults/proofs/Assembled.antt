@@ -9,7 +9,7 @@ use Rattle.asm_text.specs.Sources.{Source}
 use Rattle.pcc_asm.specs.declared.fault.AsmFlaw.{AsmFlaw}
 use Rattle.pcc_asm.specs.Names.{asm_flaw_line, asm_flaw_name}
 use Rattle.view_faults.specs.Spans.{asm_flaw_span}
-use Rattle.view_faults.specs.SourceReports.{source_line, source_fault_text, report_of_code}
+use Rattle.view_faults.specs.SourceReports.{source_line, no_limits, source_fault_text, report_of_code}
 use Rattle.pcc_asm.specs.Assembling.{with_code, assembled_code, assembled_contents}
 
 made_by : (v : ℕ) (bound : Option ℕ) (policy : PolicyView) (invs : List (ℕ × Form)) (r : Result (List Insn) AsmFlaw) (c : Contents) →
@@ -41,5 +41,5 @@ right_report text v s made insns e f = ap (λ l. (true, l)) f ∙ ap (report_of_
 
 -- and of code that isn't
 pub wrong_report : (text v : List ℕ) (s : Source) (made : Result (List Insn) AsmFlaw) (flaw : AsmFlaw) → made ≡ Err flaw →
-    v ≡ source_fault_text text (asm_flaw_line flaw) (asm_flaw_name flaw) (asm_flaw_span flaw) → ◌≡◌ {A = Bool × List ℕ} (false, v) (report_of_code text s made)
+    v ≡ source_fault_text text (asm_flaw_line flaw) (asm_flaw_name flaw) (asm_flaw_span flaw) no_limits → ◌≡◌ {A = Bool × List ℕ} (false, v) (report_of_code text s made)
 wrong_report text v s made flaw e f = ap (λ l. (false, l)) f ∙ ap (report_of_code text s) (sym e)

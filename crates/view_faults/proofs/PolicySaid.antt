@@ -8,7 +8,7 @@ use Rattle.pcc_lines.specs.Policies.{policy_form_line}
 use Rattle.view_faults.specs.Marking.{marked_line}
 use Rattle.view_faults.specs.PolicyReports.{policy_fault_text}
 use Rattle.view_faults.specs.SourceLines.{numbered_line}
-use Rattle.view_faults.specs.SourceReports.{fault_lines}
+use Rattle.view_faults.specs.SourceReports.{fault_lines, no_limits}
 
 -- three texts behind a first
 pub appended : (old a b c one two last : List ℕ) → one ≡ old ++ a → two ≡ one ++ b → last ≡ two ++ c
@@ -22,12 +22,13 @@ pub no_line : (text : List ℕ) (n at : ℕ) (flaw : TextFlaw) → None ≡ numb
     → policy_form_line n at (text_flaw_name flaw) ≡ policy_fault_text text (Form n at flaw)
 no_line text n at flaw e =
     let head = policy_form_line n at (text_flaw_name flaw) in
-    sym (append-nil head) ∙ ap (λ o. head ++ fault_lines (λ line. Some (at, 0)) o) e
+    sym (append-nil head) ∙ ap (λ o. head ++ fault_lines (λ line. Some (at, 0)) no_limits o) e
 
 -- this one has it
 pub some_line : (text line : List ℕ) (n at : ℕ) (flaw : TextFlaw) → Some line ≡ numbered_line text n
-    → policy_form_line n at (text_flaw_name flaw) ++ marked_line line (Some (at, 0))
+    → policy_form_line n at (text_flaw_name flaw) ++ marked_line line (Some (at, 0)) None
     ≡ policy_fault_text text (Form n at flaw)
 some_line text line n at flaw e =
     ap
-    (λ o. policy_form_line n at (text_flaw_name flaw) ++ fault_lines (λ l. Some (at, 0)) o) e
+    (λ o. policy_form_line n at (text_flaw_name flaw)
+    ++ fault_lines (λ l. Some (at, 0)) no_limits o) e

@@ -7,7 +7,7 @@ use Rattle.asm_text.specs.Names.{line_flaw_name}
 use Rattle.asm_text.specs.Sources.{Source}
 use Rattle.asm_text.specs.SourceParsing.{parsed_source}
 use Rattle.pcc_asm.specs.Assembling.{assembled_code}
-use Rattle.view_faults.specs.Spans.{flaw_span}
+use Rattle.view_faults.specs.Spans.{flaw_span, flaw_limits}
 use Rattle.view_faults.specs.SourceReports.{source_line, source_fault_text, report_of_code, report_of_source, source_report}
 
 nested : (x a y b z c w : List ℕ) → ((x ++ (a ++ y)) ++ (b ++ z)) ++ (c ++ w) ≡ x ++ (a ++ (y ++ (b ++ (z ++ (c ++ w)))))
@@ -39,7 +39,8 @@ said_source version bound text s r e f = f ∙ ap (report_of_source (profile_of 
 -- and of one that spells none
 pub said_flaw : (version : ℕ) (bound : Option ℕ) (text v : List ℕ) (n : ℕ) (flaw : LineFlaw) →
     parsed_source (profile_of version) (is_some bound) text ≡ Err (n, flaw) →
-    v ≡ source_fault_text text n (line_flaw_name flaw) (flaw_span (profile_of version) (is_some bound) flaw) →
+    v ≡ source_fault_text text n (line_flaw_name flaw) (flaw_span (profile_of version) (is_some bound) flaw)
+    (flaw_limits (profile_of version) flaw) →
     ◌≡◌ {A = Bool × List ℕ} (false, v) (source_report version bound text)
 unfolding source_report
 said_flaw version bound text v n flaw e f = ap (λ l. (false, l)) f ∙ ap (report_of_source (profile_of version) (is_some bound) text) (sym e)

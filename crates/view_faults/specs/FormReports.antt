@@ -1,6 +1,6 @@
 -- What is said of a text that is to spell a formula.
 use Rattle.std.specs.Prelude.{ℕ, suc, ◌-◌, Bool, true, false, ◌==◌, if◌then◌else◌, List, [], ◌∷◌, ◌++◌, codes, decimal, length, take, drop, reverse}
-use Rattle.std.specs.Prelude.{slice_index, Some, Result, Ok, Err}
+use Rattle.std.specs.Prelude.{slice_index, Some, None, Result, Ok, Err}
 use Rattle.word_ops.specs.declared.Profile.{Profile}
 use Rattle.formula_tree.specs.Formulas.{Form}
 use Rattle.formula_text.specs.Names.{text_flaw_name}
@@ -51,7 +51,7 @@ formula_line F = codes "formula " ++ (form_text 0 F ++ codes "\n")
 abbrev pub form_fault_text : List ℕ → FaultAt → List ℕ
 form_fault_text text fault =
     form_fault_line fault.0 (text_flaw_name fault.1)
-    ++ marked_line (line_around text fault.0) (Some (column_of text fault.0, 0))
+    ++ marked_line (line_around text fault.0) (Some (column_of text fault.0, 0)) None
 
 -- what is said of a text, by what it is parsed as
 abbrev pub report_of_form : List ℕ → Result Form FaultAt → Bool × List ℕ

@@ -9,7 +9,7 @@ use Rattle.policy_set.specs.PolicyText.{policy_read}
 use Rattle.policy_set.specs.Views.{PolicyView}
 use Rattle.pcc_lines.specs.Policies.{policy_lines_line, policy_length_line, policy_form_line}
 use Rattle.view_faults.specs.SourceLines.{numbered_line}
-use Rattle.view_faults.specs.SourceReports.{fault_lines}
+use Rattle.view_faults.specs.SourceReports.{fault_lines, no_limits}
 
 -- a formula as it is printed, behind a word
 abbrev pub form_behind : List ℕ → Form → List ℕ
@@ -25,7 +25,7 @@ policy_fault_text text (flaw.Lines count) = policy_lines_line count
 policy_fault_text text (flaw.Length number) = policy_length_line number
 policy_fault_text text (flaw.Form number at what) =
     policy_form_line number at (text_flaw_name what)
-    ++ fault_lines (λ line. Some (at, 0)) (numbered_line text number)
+    ++ fault_lines (λ line. Some (at, 0)) no_limits (numbered_line text number)
 
 -- what is said of a text, by what it is read as
 abbrev pub report_of_policy : List ℕ → Result PolicyView PolicyFlaw → Bool × List ℕ

@@ -11,9 +11,9 @@ use Rattle.pcc_asm.specs.declared.fault.AsmFlaw.{AsmFlaw}
 use Rattle.pcc_asm.specs.Names.{asm_flaw_line, asm_flaw_name}
 use Rattle.pcc_asm.specs.Assembling.{assembled_code}
 use Rattle.pcc_lines.specs.Sources.{source_fault_line}
-use Rattle.view_faults.specs.Marking.{Span, marked_line}
+use Rattle.view_faults.specs.Marking.{Span, Limits, marked_line}
 use Rattle.view_faults.specs.SourceLines.{numbered_line}
-use Rattle.view_faults.specs.Spans.{flaw_span, asm_flaw_span}
+use Rattle.view_faults.specs.Spans.{flaw_span, asm_flaw_span, flaw_limits}
 
 -- how many instructions, labels and invariants a source has
 unfoldable pub source_line : Source → List ℕ
@@ -23,27 +23,36 @@ source_line s =
     ++ (decimal (length s.invs) ++ codes " invariants\n")))))
 
 -- a line, if there is one, with the mark of a fault under it
-abbrev pub fault_lines : (List ℕ → Option Span) → Option (List ℕ) → List ℕ
-fault_lines span None = []
-fault_lines span (Some line) = marked_line line (span line)
+abbrev pub fault_lines : (List ℕ → Option Span) → (List ℕ → Option Limits) → Option (List ℕ) → List ℕ
+fault_lines span limits None = []
+fault_lines span limits (Some line) = marked_line line (span line) (limits line)
+
+-- a fault of whose line nothing is said but where it lies
+abbrev pub no_limits : List ℕ → Option Limits
+no_limits line = None
 
 -- a fault: its line's number and its kind, and the line itself, marked
-abbrev pub source_fault_text : List ℕ → ℕ → List ℕ → (List ℕ → Option Span) → List ℕ
-source_fault_text text number kind span =
-    source_fault_line number kind ++ fault_lines span (numbered_line text number)
+abbrev pub source_fault_text : List ℕ → ℕ → List ℕ → (List ℕ → Option Span)
+    → (List ℕ → Option Limits) → List ℕ
+source_fault_text text number kind span limits =
+    source_fault_line number kind ++ fault_lines span limits (numbered_line text number)
 
 -- what is said of a source, by what its code is assembled to
 abbrev pub report_of_code : List ℕ → Source → Result (List Insn) AsmFlaw → Bool × List ℕ
 report_of_code text s (Ok insns) = (true, source_line s)
 report_of_code text s (Err flaw) =
-    (false, source_fault_text text (asm_flaw_line flaw) (asm_flaw_name flaw) (asm_flaw_span flaw))
+    let line = asm_flaw_line flaw in
+    (false, source_fault_text text line (asm_flaw_name flaw) (asm_flaw_span flaw) no_limits)
 
 -- what is said of a text, by what it is parsed as in the profile; the flag says whether invariants
 -- may name the steps that are left
 abbrev pub report_of_source : Profile → Bool → List ℕ → Result Source (ℕ × LineFlaw) → Bool × List ℕ
 report_of_source profile left text (Ok s) = report_of_code text s (assembled_code profile s)
-report_of_source profile left text (Err fault) =
-    (false, source_fault_text text fault.0 (line_flaw_name fault.1) (flaw_span profile left fault.1))
+report_of_source profile left text (Err fault) = (
+  false,
+  source_fault_text text fault.0 (line_flaw_name fault.1) (flaw_span profile left fault.1)
+      (flaw_limits profile fault.1),
+)
 
 -- whether the text spells a source that is assembled in the version, with the bound, for any
 -- policy, and what is said of it

@@ -1,5 +1,5 @@
 -- Where the mark of a fault stands in its line.
-use Rattle.std.specs.Prelude.{ℕ, suc, ◌+◌, Bool, ◌||◌, ◌==◌, if◌then◌else◌, List, [], ◌∷◌, drop, Option, Some, None, Result, Ok, Err}
+use Rattle.std.specs.Prelude.{ℕ, suc, ◌+◌, Bool, ◌||◌, ◌==◌, if◌then◌else◌, List, [], ◌∷◌, drop, Option, Some, None, option_and_then, Result, Ok, Err}
 use Rattle.std.specs.Option.{option_map}
 use Rattle.word_ops.specs.declared.Profile.{Profile}
 use Rattle.formula_tree.specs.Formulas.{Form}
@@ -11,9 +11,9 @@ use Rattle.asm_text.specs.declared.marks.Punct.{Punct}
 use Rattle.asm_text.specs.Statements.{is_printable}
 use Rattle.pcc_asm.specs.declared.fault.AsmFlaw.{AsmFlaw}
 use Rattle.pcc_asm.specs.declared.fault.AsmFlaw.TheVariants as A
-use Rattle.view_faults.specs.Marking.{Span}
+use Rattle.view_faults.specs.Marking.{Span, Limits}
 use Rattle.view_faults.specs.SourceLines.{statement_text, statement_place, statement_tokens}
-use Rattle.view_faults.specs.WrongOperands.{wrong_operand}
+use Rattle.view_faults.specs.WrongOperands.{wrong_operand, missed_operand, wanted_limits}
 
 -- ---- bytes of a line
 
@@ -74,6 +74,12 @@ flaw_span profile left L.Range line =
 flaw_span profile left L.Formula line =
     span_in_line line (wrong_formula profile left (statement_text line) (statement_tokens line))
 flaw_span profile left flaw line = Some (blanks_before line, 0)
+
+-- the numbers that are allowed in the place of one that is out of its range
+abbrev pub flaw_limits : Profile → LineFlaw → List ℕ → Option Limits
+flaw_limits profile L.Range line =
+    option_and_then wanted_limits (missed_operand profile (statement_tokens line))
+flaw_limits profile flaw line = None
 
 -- the mark of what is wrong with a line that is assembled: the label of a branch that leads nowhere
 -- or outside

@@ -13,7 +13,7 @@ use Rattle.view_faults.specs.declared.operands.Wanted.{Wanted}
 use Rattle.view_faults.specs.declared.operands.Wanted.TheVariants as W
 use Rattle.view_faults.specs.declared.forms.OperandForm.{OperandForm}
 use Rattle.view_faults.specs.declared.forms.OperandForm.TheVariants as O
-use Rattle.view_faults.specs.Marking.{Span}
+use Rattle.view_faults.specs.Marking.{Span, Limits}
 use Rattle.view_faults.specs.SourceLines.{PlacedLexeme, lexemes_of}
 
 -- ---- what has to stand in an operand's place
@@ -75,6 +75,12 @@ first_wrong (k ∷ ks) [] = None
 first_wrong (k ∷ ks) (w ∷ ws) =
     if is_right k w.1 then first_wrong ks ws else Some (w.0, length w.1)
 
+-- what has to stand in the place of the first of the lexemes that isn't that
+abbrev pub first_missed : List Wanted → List PlacedLexeme → Option Wanted
+first_missed [] ws = None
+first_missed (k ∷ ks) [] = None
+first_missed (k ∷ ks) (w ∷ ws) = if is_right k w.1 then first_missed ks ws else Some k
+
 -- the first of the operands behind the mnemonic that is wrong
 abbrev pub wrong_operand : Profile → List (Placed Punct) → Option Span
 wrong_operand profile [] = None
@@ -82,3 +88,18 @@ wrong_operand profile ((p, Mark m) ∷ ts) = None
 wrong_operand profile ((p, Lexeme w) ∷ ts) =
     first_wrong (wanted_by (mnemonic_form (mnemonic_of profile w)) (length (lexemes_of ts)))
     (lexemes_of ts)
+
+-- what has to stand in its place
+abbrev pub missed_operand : Profile → List (Placed Punct) → Option Wanted
+missed_operand profile [] = None
+missed_operand profile ((p, Mark m) ∷ ts) = None
+missed_operand profile ((p, Lexeme w) ∷ ts) =
+    first_missed (wanted_by (mnemonic_form (mnemonic_of profile w)) (length (lexemes_of ts)))
+    (lexemes_of ts)
+
+-- the numbers that may stand in a place, if some may
+abbrev pub wanted_limits : Wanted → Option Limits
+wanted_limits W.Register = None
+wanted_limits (W.Fixed k) = None
+wanted_limits (W.Number low limit) = Some (low, limit)
+wanted_limits W.Right = Some (0, 256)

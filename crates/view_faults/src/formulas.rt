@@ -1,7 +1,7 @@
 //! The report on the text of a formula.
 
 ghost use Rattle.std.specs.Prelude.{◌≡◌, ◌+◌, ◌-◌, ◌≤◌, ◌++◌, length, reverse};
-ghost use Rattle.std.specs.Prelude.{OnOk, IfOk, Some};
+ghost use Rattle.std.specs.Prelude.{OnOk, IfOk, Some, None};
 ghost use Rattle.formula_tree.specs.Views.{form_view};
 ghost use Rattle.view_faults.specs.FormReports.{before_lf, column_of, line_around, without_lf};
 ghost use Rattle.view_faults.specs.FormReports.{form_fault_line, formula_line, form_fault_text};
@@ -82,7 +82,7 @@ fn push_fault(out: &mut Vec<u8>, position: usize, kind: &str) -> Result<(), Allo
 fn push_place(out: &mut Vec<u8>, text: &[u8], at: usize) -> Result<(), AllocError>
     requires { at ≤ length text.now }
     ensures { OnOk result (out.new.items ≡ out.old.items
-        ++ marked_line (line_around text.now at) (Some (column_of text.now at, 0))) }
+        ++ marked_line (line_around text.now at) (Some (column_of text.now at, 0)) None) }
 {
     let start = line_start(&text[..at]);
     let end = at + before_lf(&text[at..]);
@@ -90,7 +90,7 @@ fn push_place(out: &mut Vec<u8>, text: &[u8], at: usize) -> Result<(), AllocErro
         at: at - start,
         count: 0,
     };
-    push_marked_line(out, &text[start..end], Some(span))
+    push_marked_line(out, &text[start..end], Some(span), None)
 }
 
 /// What is said of a text that spells no formula.

@@ -8,13 +8,14 @@ ghost use Rattle.text_tokens.specs.Tokens.{tokens_at};
 ghost use Rattle.asm_text.specs.Marks.{source_class};
 ghost use Rattle.asm_text.specs.Integers.{Integer as IntegerView, lexeme_integer};
 ghost use Rattle.asm_text.specs.Inside.Views.{IsIntegerAnswer};
-ghost use Rattle.view_faults.specs.Inside.Views.{span_view};
+ghost use Rattle.view_faults.specs.Inside.Views.{span_view, limits_view};
 ghost use Rattle.view_faults.specs.SourceLines.{lexemes_of};
 ghost use Rattle.view_faults.specs.WrongOperands.{is_within, is_register, wanted_by, is_right};
 ghost use Rattle.view_faults.specs.WrongOperands.{first_wrong, wrong_operand};
+ghost use Rattle.view_faults.specs.WrongOperands.{first_missed, missed_operand, wanted_limits};
 
 use crate::forms::{OperandForm, operand_form};
-use crate::marking::Span;
+use crate::marking::{Limits, Span};
 use crate::tokens::token_from;
 use text_tokens::{Number, Token, read_decimal, read_number, register};
 use word_ops::Profile;
@@ -30,6 +31,15 @@ pub enum Wanted {
     Number(u64, u64),
     /// A register, or a number from 0 to 255.
     Right,
+}
+
+/// An operand that is wrong, and what its place expects.
+#[derive(Clone, Copy, Debug, PartialEq, Eq)]
+pub struct Wrong {
+    /// The place of the operand.
+    pub span: Span,
+    /// What the place expects.
+    pub wanted: Wanted,
 }
 
 /// Which integer a lexeme is: how far it is from 0, and whether there is a `-`.
@@ -177,11 +187,25 @@ fn wanted_by(form: OperandForm, count: usize) -> &'static [Wanted]
     }
 }
 
+/// Returns the numbers that a place allows, if it allows some.
+pub fn wanted_limits(wanted: Wanted) -> Option<Limits>
+    ensures { option_map limits_view result ≡ wanted_limits wanted }
+{
+    match wanted {
+        Wanted::Register => None,
+        Wanted::Fixed(_) => None,
+        Wanted::Number(low, limit) => Some(Limits { low, limit }),
+        Wanted::Right => Some(Limits { low: 0, limit: 256 }),
+    }
+}
+
 /// Returns the first of the lexemes from position `from` on that isn't what its place expects.
-fn first_wrong(wanted: &[Wanted], text: &[u8], from: usize) -> Option<Span>
+fn first_wrong(wanted: &[Wanted], text: &[u8], from: usize) -> Option<Wrong>
     requires { from ≤ length text.now }
-    ensures within { IfSome result (λ s. s.at ≤ length text.now) }
-    ensures exact { option_map span_view result ≡ first_wrong wanted.now
+    ensures within { IfSome result (λ w. w.span.at ≤ length text.now) }
+    ensures exact { option_map (λ w. span_view w.span) result ≡ first_wrong wanted.now
+        (lexemes_of (tokens_at source_class from (drop from text.now))) }
+    ensures missed { option_map (λ w. w.wanted) result ≡ first_missed wanted.now
         (lexemes_of (tokens_at source_class from (drop from text.now))) }
 {
     match wanted {
@@ -192,9 +216,12 @@ fn first_wrong(wanted: &[Wanted], text: &[u8], from: usize) -> Option<Span>
                 if is_right(*kind, found.text) {
                     first_wrong(kinds, text, found.next)
                 } else {
-                    Some(Span {
-                        at: found.at,
-                        count: found.text.len(),
+                    Some(Wrong {
+                        span: Span {
+                            at: found.at,
+                            count: found.text.len(),
+                        },
+                        wanted: *kind,
                     })
                 }
             }
@@ -202,11 +229,13 @@ fn first_wrong(wanted: &[Wanted], text: &[u8], from: usize) -> Option<Span>
     }
 }
 
-/// Returns the place of the first of the statement's operands that is wrong, or None.
-pub fn wrong_operand(profile: Profile, text: &[u8]) -> Option<Span>
-    ensures within { IfSome result (λ s. s.at ≤ length text.now) }
-    ensures exact { option_map span_view result
+/// Returns the first of the statement's operands that is wrong, or None.
+pub fn wrong_operand(profile: Profile, text: &[u8]) -> Option<Wrong>
+    ensures within { IfSome result (λ w. w.span.at ≤ length text.now) }
+    ensures exact { option_map (λ w. span_view w.span) result
         ≡ wrong_operand profile (tokens_at source_class 0 text.now) }
+    ensures missed { option_map (λ w. w.wanted) result
+        ≡ missed_operand profile (tokens_at source_class 0 text.now) }
 {
     match token_from(text, 0) {
         None => None,

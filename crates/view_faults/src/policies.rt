@@ -1,6 +1,6 @@
 //! The report on the text of a policy.
 
-ghost use Rattle.std.specs.Prelude.{◌≡◌, ◌++◌, codes, OnOk, IfOk, false, Some};
+ghost use Rattle.std.specs.Prelude.{◌≡◌, ◌++◌, OnOk, IfOk, Some, None};
 ghost use Rattle.std.specs.Option.{option_map};
 ghost use Rattle.formula_tree.specs.Views.{form_view};
 ghost use Rattle.formula_text.specs.Names.{text_flaw_name};
@@ -93,11 +93,11 @@ fn marked_fault(
     line: &[u8],
 ) -> Result<Vec<u8>, AllocError>
     ensures { IfOk result (λ v. v.items ≡ policy_form_line number at (text_flaw_name flaw)
-        ++ marked_line line.now (Some (at, 0))) }
+        ++ marked_line line.now (Some (at, 0)) None) }
 {
     let mut out = Vec::new(alloc);
     push_form_fault(&mut out, number, at, flaw.name())?;
-    push_marked_line(&mut out, line, Some(Span { at, count: 0 }))?;
+    push_marked_line(&mut out, line, Some(Span { at, count: 0 }), None)?;
     Ok(out)
 }
 

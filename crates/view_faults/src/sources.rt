@@ -10,17 +10,17 @@ ghost use Rattle.asm_text.specs.Views.{ParsesSource, source_view};
 ghost use Rattle.pcc_asm.specs.Assembling.{assembled_code};
 ghost use Rattle.pcc_asm.specs.Names.{asm_flaw_line, asm_flaw_name};
 ghost use Rattle.pcc_asm.specs.Views.{IsSpelled};
-ghost use Rattle.pcc_lines.specs.Sources.{source_fault_line};
-ghost use Rattle.view_faults.specs.Inside.Views.{span_view, IsCodeAnswer};
+ghost use Rattle.view_faults.specs.Inside.Views.{span_view, limits_view, IsCodeAnswer};
 ghost use Rattle.view_faults.specs.Marking.{marked_line};
 ghost use Rattle.view_faults.specs.SourceLines.{numbered_line};
-ghost use Rattle.view_faults.specs.Spans.{flaw_span, asm_flaw_span};
-ghost use Rattle.view_faults.specs.SourceReports.{source_line, source_fault_text};
+ghost use Rattle.view_faults.specs.Spans.{flaw_span, asm_flaw_span, flaw_limits};
+ghost use Rattle.pcc_lines.specs.Sources.{source_fault_line};
+ghost use Rattle.view_faults.specs.SourceReports.{source_line, no_limits, source_fault_text};
 ghost use Rattle.view_faults.specs.SourceReports.{report_of_code, source_report};
 
-use crate::marking::{Span, push_marked_line, push_number};
+use crate::marking::{Limits, Span, push_marked_line, push_number};
 use crate::report::SourceReport;
-use crate::spans::{asm_flaw_span, flaw_span};
+use crate::spans::{asm_flaw_span, flaw_limits, flaw_span};
 use crate::statements::numbered_line;
 use asm_text::{LineFault, LineFlaw, Source, read_source};
 use pcc_asm::{AsmFault, AsmFlaw, assemble};
@@ -92,13 +92,14 @@ fn marked_fault(
     kind: &str,
     line: &[u8],
     span: Option<Span>,
+    limits: Option<Limits>,
 ) -> Result<Vec<u8>, AllocError>
     ensures { IfOk result (λ v. v.items ≡ source_fault_line number kind.now
-        ++ marked_line line.now (option_map span_view span)) }
+        ++ marked_line line.now (option_map span_view span) (option_map limits_view limits)) }
 {
     let mut out = Vec::new(alloc);
     push_fault(&mut out, number, kind)?;
-    push_marked_line(&mut out, line, span)?;
+    push_marked_line(&mut out, line, span, limits)?;
     Ok(out)
 }
 
@@ -122,7 +123,8 @@ fn flaw_lines(
     flaw: LineFlaw,
 ) -> Result<Vec<u8>, AllocError>
     ensures { IfOk result (λ v. v.items ≡ source_fault_text text.now number
-        (line_flaw_name flaw) (flaw_span (profile_of version) (is_some bound) flaw)) }
+        (line_flaw_name flaw) (flaw_span (profile_of version) (is_some bound) flaw)
+        (flaw_limits (profile_of version) flaw)) }
 {
     match numbered_line(text, number) {
         None => {
@@ -130,8 +132,10 @@ fn flaw_lines(
             Ok(lines)
         }
         Some(line) => {
-            let span = flaw_span(alloc, profile_of(version), bound.is_some(), flaw, line)?;
-            let lines = marked_fault(alloc, number, flaw.name(), line, span)?;
+            let profile = profile_of(version);
+            let span = flaw_span(alloc, profile, bound.is_some(), flaw, line)?;
+            let limits = flaw_limits(profile, flaw, line);
+            let lines = marked_fault(alloc, number, flaw.name(), line, span, limits)?;
             Ok(lines)
         }
     }
@@ -141,7 +145,7 @@ fn flaw_lines(
 #[tactic(auto, using(crate::proofs::FaultLines::no_line, crate::proofs::FaultLines::some_line))]
 fn asm_flaw_lines(alloc: Global, text: &[u8], flaw: AsmFlaw) -> Result<Vec<u8>, AllocError>
     ensures { IfOk result (λ v. v.items ≡ source_fault_text text.now (asm_flaw_line flaw)
-        (asm_flaw_name flaw) (asm_flaw_span flaw)) }
+        (asm_flaw_name flaw) (asm_flaw_span flaw) no_limits) }
 {
     let number = flaw.line();
     match numbered_line(text, number) {
@@ -151,7 +155,7 @@ fn asm_flaw_lines(alloc: Global, text: &[u8], flaw: AsmFlaw) -> Result<Vec<u8>, 
         }
         Some(line) => {
             let span = asm_flaw_span(flaw, line);
-            let lines = marked_fault(alloc, number, flaw.name(), line, span)?;
+            let lines = marked_fault(alloc, number, flaw.name(), line, span, None)?;
             Ok(lines)
         }
     }
@@ -233,8 +237,8 @@ fn code_lines(
 /// instruction, and the kind of the fault, as `pcc asm` prints them. If the text has such a line,
 /// the report shows the line, a byte that is neither a tab nor printable as `?`, and a mark under
 /// what is wrong with it. That is the first token if it isn't a mnemonic; the first operand that
-/// isn't a register or is out of its range (the mark's line repeats the token or operand); the
-/// place in a formula; the first byte that isn't printable; the label of a branch; and else the
+/// isn't a register or is out of its range (the mark's line repeats the token or operand, and has the
+/// range); the place in a formula; the first byte that isn't printable; the label of a branch; and else the
 /// first byte that isn't blank. The report is right if the source is assembled. No fault depends on
 /// a policy.
 ///

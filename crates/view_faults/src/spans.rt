@@ -1,19 +1,20 @@
 //! Where the mark of a fault goes in its line.
 
 ghost use Rattle.std.specs.Prelude.{◌≡◌, ◌+◌, ◌^◌, ◌<◌, ◌≤◌, length, drop, IfOk, IfSome, Some};
+ghost use Rattle.std.specs.Prelude.{option_and_then};
 ghost use Rattle.std.specs.Option.{option_map};
 ghost use Rattle.text_tokens.specs.Tokens.{tokens_at};
 ghost use Rattle.formula_text.specs.Parsing.{parsed_form};
 ghost use Rattle.asm_text.specs.Marks.{source_class};
-ghost use Rattle.view_faults.specs.Inside.Views.{span_view};
+ghost use Rattle.view_faults.specs.Inside.Views.{span_view, limits_view};
 ghost use Rattle.view_faults.specs.Spans.{blanks_before, printable_before, first_token, last_token};
 ghost use Rattle.view_faults.specs.Spans.{fault_behind, wrong_formula, span_in_line};
-ghost use Rattle.view_faults.specs.Spans.{flaw_span, asm_flaw_span};
+ghost use Rattle.view_faults.specs.Spans.{flaw_span, asm_flaw_span, flaw_limits};
 ghost use Rattle.view_faults.specs.SourceLines.{statement_text, statement_tokens};
-ghost use Rattle.view_faults.specs.WrongOperands.{wrong_operand};
+ghost use Rattle.view_faults.specs.WrongOperands.{wrong_operand, missed_operand, wanted_limits};
 
-use crate::marking::{Span, is_printable};
-use crate::operands::wrong_operand;
+use crate::marking::{Limits, Span, is_printable};
+use crate::operands::{wanted_limits, wrong_operand};
 use crate::parsing::form_in;
 use crate::statements::statement_of;
 use crate::tokens::token_from;
@@ -156,7 +157,22 @@ fn operand_span(profile: Profile, line: &[u8]) -> Option<Span>
         ≡ span_in_line line.now (wrong_operand profile (statement_tokens line.now)) }
 {
     let (place, text) = statement_of(line);
-    in_line(place, wrong_operand(profile, text))
+    match wrong_operand(profile, text) {
+        None => None,
+        Some(wrong) => in_line(place, Some(wrong.span)),
+    }
+}
+
+/// The numbers that are allowed in the place of a statement's wrong operand, if some are.
+fn operand_limits(profile: Profile, line: &[u8]) -> Option<Limits>
+    ensures { option_map limits_view result ≡ option_and_then wanted_limits
+        (missed_operand profile (statement_tokens line.now)) }
+{
+    let (_, text) = statement_of(line);
+    match wrong_operand(profile, text) {
+        None => None,
+        Some(wrong) => wanted_limits(wrong.wanted),
+    }
 }
 
 /// Returns the mark of an invariant that isn't a formula.
@@ -208,6 +224,25 @@ pub fn flaw_span(
         LineFlaw::DoubleInvariant => Ok(mark_at(blanks_before(line))),
         LineFlaw::LooseInvariant => Ok(mark_at(blanks_before(line))),
         LineFlaw::Length => Ok(mark_at(blanks_before(line))),
+    }
+}
+
+/// Returns the numbers that are allowed in the place of what is wrong with a line of a source, if it
+/// is a number out of its range.
+pub fn flaw_limits(profile: Profile, flaw: LineFlaw, line: &[u8]) -> Option<Limits>
+    ensures { option_map limits_view result ≡ flaw_limits profile flaw line.now }
+{
+    match flaw {
+        LineFlaw::Range => operand_limits(profile, line),
+        LineFlaw::Character => None,
+        LineFlaw::Mnemonic => None,
+        LineFlaw::Register => None,
+        LineFlaw::Formula => None,
+        LineFlaw::Operand => None,
+        LineFlaw::DoubleLabel => None,
+        LineFlaw::DoubleInvariant => None,
+        LineFlaw::LooseInvariant => None,
+        LineFlaw::Length => None,
     }
 }
 
