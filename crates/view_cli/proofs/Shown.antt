@@ -83,14 +83,14 @@ use Rattle.view_cli.specs.Texts.{view_texts, formula_too_long_line}
 use Rattle.view_cli.specs.declared.limits.TheConstants.{MAX_FORMULA}
 use Rattle.view_cli.specs.Commands.Faults.{told_exit, formula_command, policy_command, source_command}
 use Rattle.view_cli.specs.Commands.Goals.{goals_found, goals_command}
-use Rattle.view_cli.specs.Commands.List.{container_found, lines_found, lines_in, source_lines_of, list_command}
+use Rattle.view_cli.specs.Commands.List.{lines_found, lines_in, source_lines_of, listing_in, list_command}
 use Rattle.view_cli.specs.Commands.Packet.{traced_exit, where_started, packet_command}
 use Rattle.view_cli.specs.Tasks.{view_task}
 use Rattle.view_cli.specs.Headline.{IsToldBy, AreLinesOf, ListsContents, first_hard_part, ListsGoals, EndsWithLine, TracesPacket, SaysOfForm, SaysOfPolicy, IsToldWithMark, SaysOfSource, SaysOf, SaysOfText, IsShown, RunShows, came_to, ran_out, ShowsIfCommand}
 use Rattle.view_cli.proofs.Always.{Always, always_comes}
 use Rattle.view_cli.proofs.CommandStages.{listing_stage, lines_stage, goals_stage, goals_under, last_stage, code_stage, policy_stage}
 use Rattle.view_cli.proofs.LineNumbers.{line_numbers}
-use Rattle.view_cli.proofs.PureStages.{EndsAs, gave, refused_by, had_no_memory, contents_end, code_end, packets_in_end, policy_in_end}
+use Rattle.view_cli.proofs.PureStages.{EndsAs, gave, refused_by, had_no_memory, code_end, packets_in_end, policy_in_end}
 
 -- what the definitions beneath are worth
 pub record ViewLaws : Type 0 where
@@ -164,10 +164,6 @@ value_of other s = other
 gives_none : {A B : Type 0} (x : A) (exit : Exit) → stops exit ≡ gives x → B
 gives_none x exit is = absurd (true≢false (ap is_stop is))
 
-contents_are : (r : Result Contents Fault) (c : Contents) → container_found r ≡ gives c → r ≡ Ok c
-contents_are (Ok d) c is = ap (λ (s : Stage Contents). Ok (value_of c s)) is
-contents_are (Err fault) c is = gives_none c _ is
-
 packets_are : (r : Result (List (List ℕ)) PacketFault) (all : List (List ℕ))
     → packets_found r ≡ gives all → r ≡ Ok all
 packets_are (Ok d) all is = ap (λ (s : Stage (List (List ℕ))). Ok (value_of all s)) is
@@ -240,16 +236,19 @@ module _ (laws : ViewLaws) (file : List ℕ) where
       list_parsed b octets c is from text short
       (parsed_source (profile_of c.version) (is_some c.bound) text) refl)
 
+  list_in : (from : Option (List ℕ)) (b : List ℕ) → IsBytes b → (r : Result Contents Fault)
+      → decoded_container b ≡ r
+      → Always view_texts (Done (Listed from b)) (listing_in from b r >>= ending)
+  list_in from b octets (Ok c) is = list_with b octets c is from
+  list_in from b octets (Err fault) is = λ z. refused_none z
+
   list_shows : (from : Option (List ℕ))
       → Always view_texts (IsShown (views.list file from)) (list_command file from >>= ending)
   unfolding list_command
   list_shows from =
       reads_on (ListsContents file from) file MAX_FILE container_too_long_line
-      (λ b. (container_found (decoded_container b) >>= lines_stage from) >>= ending)
-      (λ b octets short.
-      goes_on (Listed from b) (λ (y : Stage Contents). (y >>= lines_stage from) >>= ending)
-      (λ exit. refl) (container_found (decoded_container b)) (contents_end (decoded_container b))
-      (λ c is. list_with b octets c (contents_are (decoded_container b) c is) from))
+      (λ b. listing_in from b (decoded_container b) >>= ending)
+      (λ b octets short. list_in from b octets (decoded_container b) refl)
 
 -- ---- commands under a policy
 

@@ -18,7 +18,7 @@ use Rattle.policy_set.specs.declared.fault.PolicyFlaw.{PolicyFlaw}
 use Rattle.policy_set.specs.declared.fault.PolicyFlaw.TheVariants as policy_flaw
 use Rattle.policy_set.specs.declared.kind.PolicyKind.{PolicyKind}
 use Rattle.proof_container.specs.Contents.{Contents}
-use Rattle.proof_container.specs.Decoding.{decoded_container}
+use Rattle.proof_container.specs.Decoding.{Fault, decoded_container}
 use Rattle.proof_container.specs.Versions.{profile_of}
 use Rattle.pcc_gate.specs.declared.refusal.Refusal.{Refusal}
 use Rattle.view_goal_text.specs.Listing.{goals_of_bytes}
@@ -45,11 +45,12 @@ use Rattle.view_cli.specs.Texts.{view_texts, formula_too_long_line, absent_packe
 use Rattle.view_cli.specs.declared.limits.TheConstants.{MAX_FORMULA}
 use Rattle.view_cli.specs.Commands.Faults.{told_exit, formula_command, policy_command, source_command}
 use Rattle.view_cli.specs.Commands.Goals.{goals_found, goals_command}
-use Rattle.view_cli.specs.Commands.List.{container_found, lines_in, source_lines_of, list_command}
+use Rattle.view_cli.specs.Commands.List.{lines_in, source_lines_of, listing_in, list_command}
+use Rattle.view_cli.specs.Looks.{look_of}
 use Rattle.view_cli.specs.Commands.Packet.{traced_exit, where_started, packet_command}
 use Rattle.view_cli.specs.Tasks.{standing_if_found, view_task}
 use Rattle.view_cli.proofs.CommandStages.{listing_stage, lines_stage, goals_stage, goals_under, last_stage, code_stage, policy_stage}
-use Rattle.view_cli.proofs.PureStages.{BeginsBefore, EndsAs, gave, refused_by, had_no_memory, refusal_begins, contents_end, lines_in_end, code_end, packets_in_end, policy_in_end}
+use Rattle.view_cli.proofs.PureStages.{BeginsBefore, EndsAs, gave, refused_by, had_no_memory, refusal_begins, no_container_begins, lines_in_end, code_end, packets_in_end, policy_in_end}
 
 -- a line that begins with another letter isn't that of an unknown policy
 other_line : (line : List ℕ) → BeginsBefore line → line ≢ unknown_policy_line
@@ -204,15 +205,21 @@ plain_fits : (names : List (List ℕ)) (c : Contents)
 unfolding source_lines_of
 plain_fits names c = refl
 
+listing_fits : (names : List (List ℕ)) (from : Option (List ℕ)) (b : List ℕ)
+    (r : Result Contents Fault) → ((c : Contents) → Fits names (lines_stage from c >>= ending))
+    → Fits names (listing_in from b r >>= ending)
+listing_fits names from b (Ok c) each = each c
+listing_fits names from b (Err fault) each =
+    inl (stop_line _ (no_container_begins fault.0 fault.1 (look_of b)))
+
 list_fits : (names : List (List ℕ)) (file : List ℕ) (from : Option (List ℕ)) → Contains names file
     → ((c : Contents) → Fits names (lines_stage from c >>= ending))
     → Fits names (list_command file from >>= ending)
 unfolding list_command
 list_fits names file from listed each =
     reads_on names file MAX_FILE container_too_long_line
-    (λ b. (container_found (decoded_container b) >>= lines_stage from) >>= ending) listed (omega arith)
-    (λ b. goes_on names (λ (y : Stage Contents). (y >>= lines_stage from) >>= ending) (λ exit. refl)
-    (container_found (decoded_container b)) (contents_end (decoded_container b)) each)
+    (λ b. listing_in from b (decoded_container b) >>= ending) listed (omega arith)
+    (λ b. listing_fits names from b (decoded_container b) each)
 
 -- the only name, the first, the second, the third
 only : (a : List ℕ) → Contains (a ∷ []) a

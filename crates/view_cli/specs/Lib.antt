@@ -1,4 +1,6 @@
 pub mod Texts
+pub mod Looks
+pub mod Inside
 pub mod Commands
 pub mod Tasks
 pub mod Reports

@@ -18,6 +18,7 @@ mod arguments;
 mod builders;
 mod commands;
 mod limits;
+mod looks;
 mod report;
 mod texts;
 mod top_call;
