@@ -4,9 +4,10 @@
 
 ghost use Rattle.std.specs.Prelude.{◌≡◌, ◌++◌, IfOk, OnOk, decimal};
 ghost use Rattle.view_goal_text.specs.Lines.{numbered, part_title, why_text, mark_text};
-ghost use Rattle.view_goal_text.specs.Hints.{bounds_label};
+ghost use Rattle.view_goal_text.specs.Hints.{negative_text, worded, bounds_label};
 ghost use Rattle.view_goal_text.specs.Lines.{taken_text, goal_label, known_label, verdict_line};
 
+use crate::limits::LEAST_NEGATIVE;
 use itoa::Buffer;
 use std::alloc::{AllocError, Global};
 use view_goals::Why;
@@ -24,6 +25,30 @@ fn push_numbered(out: &mut Vec<u8>, word: &str, n: u64) -> Result<(), AllocError
 {
     out.extend_from_slice(word.as_bytes())?;
     push_number(out, n)
+}
+
+/// Appends a word as a number below 0, if it is near 2^64.
+#[tactic(auto, unfolding(crate::specs::Hints::negative_text))]
+fn push_negative(out: &mut Vec<u8>, n: u64) -> Result<(), AllocError>
+    ensures { OnOk result (out.new.items ≡ out.old.items ++ negative_text n) }
+{
+    if n < LEAST_NEGATIVE {
+        return Ok(());
+    }
+    out.extend_from_slice(b" (-")?;
+    push_number(out, u64::MAX - n + 1)?;
+    out.extend_from_slice(b")")?;
+    Ok(())
+}
+
+/// Appends a text and a word after it, as both numbers.
+fn push_worded(out: &mut Vec<u8>, text: &str, n: u64) -> Result<(), AllocError>
+    ensures { OnOk result (out.new.items ≡ out.old.items ++ worded text.now n) }
+{
+    out.extend_from_slice(text.as_bytes())?;
+    push_number(out, n)?;
+    push_negative(out, n)?;
+    Ok(())
 }
 
 /// The title of the part of a number.
@@ -123,8 +148,8 @@ pub(crate) fn bounds_label(alloc: Global, upper: u64, lower: u64) -> Result<Vec<
     ensures { IfOk result (λ v. v.items ≡ bounds_label upper lower) }
 {
     let mut label = Vec::new(alloc);
-    push_numbered(&mut label, "  the left side is at most ", upper)?;
-    push_numbered(&mut label, ", the right side at least ", lower)?;
+    push_worded(&mut label, "  the left side is at most ", upper)?;
+    push_worded(&mut label, ", the right side at least ", lower)?;
     Ok(label)
 }
 
