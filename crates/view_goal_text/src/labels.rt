@@ -2,22 +2,15 @@
 //!
 //! Errors: out of memory.
 
-ghost use Rattle.std.specs.Prelude.{◌≡◌, ◌++◌, IfOk, OnOk, decimal};
+ghost use Rattle.std.specs.Prelude.{◌≡◌, ◌++◌, IfOk, OnOk};
 ghost use Rattle.view_goal_text.specs.Lines.{numbered, part_title, why_text, mark_text};
 ghost use Rattle.view_goal_text.specs.Hints.{negative_text, worded, bounds_label};
 ghost use Rattle.view_goal_text.specs.Lines.{taken_text, goal_label, known_label, verdict_line};
 
 use crate::limits::LEAST_NEGATIVE;
-use itoa::Buffer;
 use std::alloc::{AllocError, Global};
+use view_entries::push_number;
 use view_goals::Why;
-
-pub(crate) fn push_number(out: &mut Vec<u8>, n: u64) -> Result<(), AllocError>
-    ensures { OnOk result (out.new.items ≡ out.old.items ++ decimal n) }
-{
-    let mut buffer = Buffer::new();
-    out.extend_from_slice(buffer.format(n).as_bytes())
-}
 
 /// Appends a word and the number after it.
 fn push_numbered(out: &mut Vec<u8>, word: &str, n: u64) -> Result<(), AllocError>
@@ -116,15 +109,6 @@ fn push_goal_label(
     Ok(())
 }
 
-/// Appends the line of the hypothesis that a branch adds, up to its formula.
-fn push_known_label(out: &mut Vec<u8>, number: u64, at: u32, taken: bool) -> Result<(), AllocError>
-    ensures { OnOk result (out.new.items ≡ out.old.items ++ known_label number at taken) }
-{
-    push_numbered(out, "known ", number)?;
-    push_numbered(out, ", ", u64::from(at))?;
-    push_taken(out, taken)
-}
-
 /// Returns the title of a part, from its number and the index where it begins.
 pub(crate) fn title_label(alloc: Global, number: usize, at: u32) -> Result<Vec<u8>, AllocError>
     ensures { IfOk result (λ v. v.items ≡ part_title number at) }
@@ -178,7 +162,9 @@ pub(crate) fn known_label(
     ensures { IfOk result (λ v. v.items ≡ known_label number at taken) }
 {
     let mut label = Vec::new(alloc);
-    push_known_label(&mut label, number, at, taken)?;
+    push_numbered(&mut label, "known ", number)?;
+    push_numbered(&mut label, ", ", u64::from(at))?;
+    push_taken(&mut label, taken)?;
     Ok(label)
 }
 
