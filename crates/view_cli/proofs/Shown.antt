@@ -56,12 +56,12 @@ use Rattle.view_goal_text.specs.Texts.{goal_lines_text}
 use Rattle.view_goal_text.specs.Listing.{goal_parts, parts_lines, goals_text, goals_of_code, goals_read, listed_unless, goals_of_bytes}
 use Rattle.view_trace.specs.Traces.{trace_from, packet_text}
 use Rattle.view_faults.specs.FormReports.{without_lf, formula_line, form_fault_text, report_of_form, formula_report}
-use Rattle.view_faults.specs.Laws.{IsTokenFlaw}
-use Rattle.view_faults.specs.Marking.{Span, marked_line}
+use Rattle.view_source_faults.specs.Laws.{IsTokenFlaw}
+use Rattle.view_faults.specs.Marking.{Span, marked_line, no_limits, fault_lines}
 use Rattle.view_faults.specs.PolicyReports.{policy_forms, policy_fault_text, report_of_policy, policy_report}
-use Rattle.view_faults.specs.SourceLines.{numbered_line}
-use Rattle.view_faults.specs.SourceReports.{source_line, no_limits, source_fault_text, fault_lines, report_of_code, report_of_source, source_report}
-use Rattle.view_faults.specs.Spans.{flaw_span, asm_flaw_span, flaw_limits}
+use Rattle.view_faults.specs.Lines.{numbered_line}
+use Rattle.view_source_faults.specs.SourceReports.{source_line, source_fault_text, report_of_code, report_of_source, source_report}
+use Rattle.view_source_faults.specs.Spans.{flaw_span, asm_flaw_span, flaw_limits}
 use Rattle.pcc_words.specs.Invocations.{PolicyWord, named, from_file}
 use Rattle.pcc_lines.specs.Fixed.{container_too_long_line, packets_too_long_line, policy_too_long_line, source_too_long_line}
 use Rattle.pcc_lines.specs.Policies.{policy_lines_line, policy_length_line}

@@ -24,7 +24,7 @@ use Rattle.pcc_gate.specs.declared.refusal.Refusal.{Refusal}
 use Rattle.view_goal_text.specs.Listing.{goals_of_bytes}
 use Rattle.view_faults.specs.FormReports.{without_lf, form_fault_line, form_fault_text, report_of_form, formula_report}
 use Rattle.view_faults.specs.PolicyReports.{report_of_policy, policy_report}
-use Rattle.view_faults.specs.SourceReports.{report_of_code, report_of_source, source_report}
+use Rattle.view_source_faults.specs.SourceReports.{report_of_code, report_of_source, source_report}
 use Rattle.pcc_words.specs.Invocations.{named, from_file}
 use Rattle.pcc_lines.specs.Fixed.{container_too_long_line, packets_too_long_line, policy_too_long_line, source_too_long_line, unknown_policy_line}
 use Rattle.pcc_lines.specs.Policies.{policy_lines_line, policy_length_line, policy_form_line}

@@ -41,12 +41,12 @@ use Rattle.view_goal_text.specs.Lines.{verdict_line}
 use Rattle.view_goal_text.specs.Listing.{goals_text, goals_of_bytes}
 use Rattle.view_trace.specs.Traces.{packet_text}
 use Rattle.view_faults.specs.FormReports.{without_lf, formula_line, form_fault_text}
-use Rattle.view_faults.specs.Laws.{IsTokenFlaw}
-use Rattle.view_faults.specs.Marking.{Span, marked_line}
+use Rattle.view_source_faults.specs.Laws.{IsTokenFlaw}
+use Rattle.view_faults.specs.Marking.{Span, marked_line, no_limits}
 use Rattle.view_faults.specs.PolicyReports.{policy_forms, policy_fault_text}
-use Rattle.view_faults.specs.SourceLines.{numbered_line}
-use Rattle.view_faults.specs.SourceReports.{source_line, no_limits, source_fault_text}
-use Rattle.view_faults.specs.Spans.{flaw_span, asm_flaw_span, flaw_limits}
+use Rattle.view_faults.specs.Lines.{numbered_line}
+use Rattle.view_source_faults.specs.SourceReports.{source_line, source_fault_text}
+use Rattle.view_source_faults.specs.Spans.{flaw_span, asm_flaw_span, flaw_limits}
 use Rattle.pcc_words.specs.Invocations.{PolicyWord, named, from_file}
 use Rattle.pcc_lines.specs.Fixed.{policy_too_long_line, source_too_long_line}
 use Rattle.pcc_lines.specs.Results.{result_line, result_lines}

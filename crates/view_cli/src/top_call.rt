@@ -114,7 +114,7 @@ pub fn pcc_view<F: Files, S: Sink>(
     policy_set::laws();
     formula_text::laws();
     asm_text::laws();
-    view_faults::laws();
+    view_source_faults::laws();
     view_goal_text::laws();
     let decision = decide(alloc, words.as_slice(), files);
     print(decision, out)

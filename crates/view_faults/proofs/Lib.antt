@@ -1,9 +1,3 @@
 pub mod Backwards
 pub mod Places
-pub mod SameTokens
-pub mod Assembled
-pub mod FaultLines
-pub mod SourceSaid
 pub mod PolicySaid
-pub mod WrongFound
-pub mod Marked

@@ -5,10 +5,9 @@ use Rattle.formula_text.specs.declared.fault.TextFlaw.{TextFlaw}
 use Rattle.formula_text.specs.Names.{text_flaw_name}
 use Rattle.policy_set.specs.declared.fault.PolicyFlaw.TheVariants.{Form}
 use Rattle.pcc_lines.specs.Policies.{policy_form_line}
-use Rattle.view_faults.specs.Marking.{marked_line}
+use Rattle.view_faults.specs.Marking.{marked_line, fault_lines, no_limits}
 use Rattle.view_faults.specs.PolicyReports.{policy_fault_text}
-use Rattle.view_faults.specs.SourceLines.{numbered_line}
-use Rattle.view_faults.specs.SourceReports.{fault_lines, no_limits}
+use Rattle.view_faults.specs.Lines.{numbered_line}
 
 -- three texts behind a first
 pub appended : (old a b c one two last : List ℕ) → one ≡ old ++ a → two ≡ one ++ b → last ≡ two ++ c

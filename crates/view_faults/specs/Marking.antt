@@ -52,3 +52,12 @@ mark_lines line (Some span) limits = mark_line line span limits
 -- a line as it is shown, and the mark under it, where there is one, with the numbers that are allowed
 abbrev pub marked_line : List ℕ → Option Span → Option Limits → List ℕ
 marked_line line span limits = map shown_byte line ++ (10 ∷ mark_lines line span limits)
+
+-- a line, if there is one, with the mark of a fault under it
+abbrev pub fault_lines : (List ℕ → Option Span) → (List ℕ → Option Limits) → Option (List ℕ) → List ℕ
+fault_lines span limits None = []
+fault_lines span limits (Some line) = marked_line line (span line) (limits line)
+
+-- a fault of whose line nothing is said but where it lies
+abbrev pub no_limits : List ℕ → Option Limits
+no_limits line = None

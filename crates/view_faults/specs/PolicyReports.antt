@@ -8,8 +8,8 @@ use Rattle.policy_set.specs.declared.fault.PolicyFlaw.TheVariants as flaw
 use Rattle.policy_set.specs.PolicyText.{policy_read}
 use Rattle.policy_set.specs.Views.{PolicyView}
 use Rattle.pcc_lines.specs.Policies.{policy_lines_line, policy_length_line, policy_form_line}
-use Rattle.view_faults.specs.SourceLines.{numbered_line}
-use Rattle.view_faults.specs.SourceReports.{fault_lines, no_limits}
+use Rattle.view_faults.specs.Lines.{numbered_line}
+use Rattle.view_faults.specs.Marking.{fault_lines, no_limits}
 
 -- a formula as it is printed, behind a word
 abbrev pub form_behind : List ℕ → Form → List ℕ

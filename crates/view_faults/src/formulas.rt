@@ -10,7 +10,7 @@ ghost use Rattle.view_faults.specs.Marking.{marked_line};
 
 use crate::marking::{Span, push_marked_line, push_number};
 use crate::parsing::form_in;
-use crate::report::FormulaReport;
+use crate::report::Report;
 use formula_text::{TextFault, TextFlaw, print_form};
 use formula_tree::Form;
 use std::alloc::{AllocError, Global};
@@ -134,7 +134,7 @@ pub fn formula_lines(
     profile: Profile,
     left: bool,
     text: &[u8],
-) -> Result<FormulaReport, AllocError>
+) -> Result<Report, AllocError>
     requires short { length text.now ≤ MAX_FORMULA_TEXT }
     ensures exact { IfOk result
         (λ r. (r.right, r.text.items) ≡ formula_report profile left text.now) }
@@ -143,11 +143,11 @@ pub fn formula_lines(
     match form_in(alloc, text, profile, left) {
         Ok(form) => {
             let text = form_line(alloc, &form)?;
-            Ok(FormulaReport { right: true, text })
+            Ok(Report { right: true, text })
         }
         Err(TextFault::At(at, flaw)) => {
             let text = fault_lines(alloc, text, at, flaw)?;
-            Ok(FormulaReport { right: false, text })
+            Ok(Report { right: false, text })
         }
         Err(TextFault::Memory) => Err(AllocError),
     }

@@ -7,7 +7,7 @@ ghost use Rattle.asm_text.specs.Statements.{is_printable};
 ghost use Rattle.view_faults.specs.Marking.{shown_byte, margin_byte, repeated, mark_line};
 ghost use Rattle.view_faults.specs.Marking.{least_text, range_text, limits_text};
 ghost use Rattle.view_faults.specs.Marking.{mark_lines, marked_line};
-ghost use Rattle.view_faults.specs.Inside.Views.{span_view, limits_view};
+ghost use Rattle.view_faults.specs.Views.{span_view, limits_view};
 
 use itoa::Buffer;
 use std::alloc::AllocError;

@@ -6,14 +6,14 @@ ghost use Rattle.formula_tree.specs.Views.{form_view};
 ghost use Rattle.formula_text.specs.Names.{text_flaw_name};
 ghost use Rattle.policy_set.specs.declared.fault.PolicyFlaw.TheVariants.{Form as FormFlaw};
 ghost use Rattle.pcc_lines.specs.Policies.{policy_lines_line, policy_length_line, policy_form_line};
-ghost use Rattle.view_faults.specs.Inside.Views.{span_view};
+ghost use Rattle.view_faults.specs.Views.{span_view};
 ghost use Rattle.view_faults.specs.Marking.{marked_line};
 ghost use Rattle.view_faults.specs.PolicyReports.{form_behind, policy_forms, policy_fault_text};
 ghost use Rattle.view_faults.specs.PolicyReports.{policy_report};
 
+use crate::lines::numbered_line;
 use crate::marking::{Span, push_marked_line, push_number};
-use crate::report::PolicyReport;
-use crate::statements::numbered_line;
+use crate::report::Report;
 use formula_text::{TextFlaw, print_form};
 use formula_tree::Form;
 use policy_set::{Policy, PolicyFault, PolicyFlaw, read_policy};
@@ -171,17 +171,17 @@ fn policy_forms(alloc: Global, policy: &Policy) -> Result<Vec<u8>, AllocError>
 ///
 /// Errors: out of memory.
 #[tactic(auto, unfolding(crate::specs::PolicyReports::policy_report))]
-pub fn policy_lines(alloc: Global, text: &[u8]) -> Result<PolicyReport, AllocError>
+pub fn policy_lines(alloc: Global, text: &[u8]) -> Result<Report, AllocError>
     ensures exact { IfOk result (λ r. (r.right, r.text.items) ≡ policy_report text.now) }
 {
     match read_policy(alloc, text) {
         Ok(policy) => {
             let text = policy_forms(alloc, &policy)?;
-            Ok(PolicyReport { right: true, text })
+            Ok(Report { right: true, text })
         }
         Err(PolicyFault::At(flaw)) => {
             let text = fault_text(alloc, text, flaw)?;
-            Ok(PolicyReport { right: false, text })
+            Ok(Report { right: false, text })
         }
         Err(PolicyFault::Memory) => Err(AllocError),
     }

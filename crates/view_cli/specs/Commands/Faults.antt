@@ -4,7 +4,7 @@ use Rattle.asm_text.specs.declared.limits.TheConstants.{MAX_SOURCE}
 use Rattle.word_ops.specs.declared.Profile.{Profile}
 use Rattle.view_faults.specs.FormReports.{formula_report}
 use Rattle.view_faults.specs.PolicyReports.{policy_report}
-use Rattle.view_faults.specs.SourceReports.{source_report}
+use Rattle.view_source_faults.specs.SourceReports.{source_report}
 use Rattle.pcc_lines.specs.Fixed.{source_too_long_line}
 use Rattle.pcc_stages.specs.Exits.{Exit}
 use Rattle.pcc_stages.specs.Runs.{done_exit}

@@ -8,7 +8,7 @@ ghost use Rattle.pcc_words.specs.Commands.{IsVersionOf};
 ghost use Rattle.pcc_stages.specs.Stage.{gives};
 ghost use Rattle.pcc_stages.specs.Answers.{Gives, GivesPure};
 ghost use Rattle.view_faults.specs.PolicyReports.{policy_report};
-ghost use Rattle.view_faults.specs.SourceReports.{source_report};
+ghost use Rattle.view_source_faults.specs.SourceReports.{source_report};
 ghost use Rattle.view_cli.specs.Commands.Faults.{text_of, told_exit, formula_exit};
 ghost use Rattle.view_cli.specs.Commands.Faults.{formula_command, policy_command, source_command};
 ghost use Rattle.view_cli.specs.Reports.{exit_of_report};
@@ -20,7 +20,8 @@ use asm_text::MAX_SOURCE;
 use file_port::Files;
 use pcc_stages::{MAX_POLICY_FILE, RefusedLine, Stop, bytes_of};
 use std::alloc::Global;
-use view_faults::{Report as Told, formula_lines, policy_lines, source_lines};
+use view_faults::{Report as Told, formula_lines, policy_lines};
+use view_source_faults::source_lines;
 use word_ops::Profile;
 
 /// Reads the text in the file with this name.
