@@ -86,7 +86,9 @@ use Rattle.view_cli.specs.Commands.Goals.{goals_found, goals_command}
 use Rattle.view_cli.specs.Commands.List.{lines_found, lines_in, source_lines_of, listing_in, list_command}
 use Rattle.view_cli.specs.Commands.Packet.{traced_exit, where_started, packet_command}
 use Rattle.view_cli.specs.Tasks.{view_task}
-use Rattle.view_cli.specs.Headline.{IsToldBy, AreLinesOf, ListsContents, first_hard_part, ListsGoals, EndsWithLine, TracesPacket, SaysOfForm, SaysOfPolicy, IsToldWithMark, SaysOfSource, SaysOf, SaysOfText, IsShown, RunShows, came_to, ran_out, ShowsIfCommand}
+use Rattle.view_cli.specs.Headline.{IsToldBy, AreLinesOf, ListsContents, first_hard_part, ListsGoals, EndsWithLine, TracesPacket}
+use Rattle.view_cli.specs.Headline.{SaysOfForm, SaysOfPolicy, IsToldWithMark, SaysOfSource, SaysOf, SaysOfText, IsShown, RunShows}
+use Rattle.view_cli.specs.Headline.{came_to, ran_out, ShowsIfCommand}
 use Rattle.view_cli.proofs.Always.{Always, always_comes}
 use Rattle.view_cli.proofs.CommandStages.{listing_stage, lines_stage, goals_stage, goals_under, last_stage, code_stage, policy_stage}
 use Rattle.view_cli.proofs.LineNumbers.{line_numbers}

@@ -50,7 +50,8 @@ use Rattle.view_cli.specs.Looks.{look_of}
 use Rattle.view_cli.specs.Commands.Packet.{traced_exit, where_started, packet_command}
 use Rattle.view_cli.specs.Tasks.{standing_if_found, view_task}
 use Rattle.view_cli.proofs.CommandStages.{listing_stage, lines_stage, goals_stage, goals_under, last_stage, code_stage, policy_stage}
-use Rattle.view_cli.proofs.PureStages.{BeginsBefore, EndsAs, gave, refused_by, had_no_memory, refusal_begins, no_container_begins, lines_in_end, code_end, packets_in_end, policy_in_end}
+use Rattle.view_cli.proofs.PureStages.{BeginsBefore, EndsAs, gave, refused_by, had_no_memory, refusal_begins, no_container_begins}
+use Rattle.view_cli.proofs.PureStages.{lines_in_end, code_end, packets_in_end, policy_in_end}
 
 -- a line that begins with another letter isn't that of an unknown policy
 other_line : (line : List ℕ) → BeginsBefore line → line ≢ unknown_policy_line

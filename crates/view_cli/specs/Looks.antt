@@ -12,7 +12,7 @@ use Rattle.view_cli.specs.declared.looks.Look.TheVariants as look
 
 -- the bytes begin with these
 abbrev pub begins_with : List ℕ → List ℕ → Bool
-begins_with front bytes = bytes_eq (take (length front) bytes) front
+begins_with front bytes = bytes_eq front (take (length front) bytes)
 
 -- An ELF file begins so (System V ABI, "ELF Identification").
 abbrev pub is_elf : List ℕ → Bool

@@ -1,6 +1,6 @@
 //! What bytes look like that aren't a container.
 
-ghost use Rattle.std.specs.Prelude.{◌≡◌, ◌≤◌, length, take, is_ok, IfOk};
+ghost use Rattle.std.specs.Prelude.{◌≡◌, ◌≤◌, length, is_ok, IfOk};
 ghost use Rattle.file_port.specs.Sink.{Puts};
 ghost use Rattle.packet_store.specs.PacketDecoding.{decoded_packets};
 ghost use Rattle.bpf_words.specs.Reading.{program_of};
@@ -16,6 +16,7 @@ use pcc_gate::Refusal;
 use pcc_lines::print_refusal;
 use proof_container::Flaw;
 use std::alloc::{AllocError, Global};
+use view_faults::is_printable;
 
 /// What bytes look like that aren't a container.
 #[derive(Clone, Copy, Debug, PartialEq, Eq)]
@@ -38,22 +39,11 @@ pub enum Look {
     Unknown,
 }
 
-/// As many bytes from the front as there are, and no more than `count`.
-fn front(bytes: &[u8], count: usize) -> &[u8]
-    ensures { result.now ≡ take count bytes.now }
-{
-    if count < bytes.len() {
-        &bytes[..count]
-    } else {
-        bytes
-    }
-}
-
 /// Whether the bytes begin with these.
 fn begins_with(wanted: &[u8], bytes: &[u8]) -> bool
     ensures { result ≡ begins_with wanted.now bytes.now }
 {
-    front(bytes, wanted.len()) == wanted
+    bytes.starts_with(wanted)
 }
 
 /// Whether the bytes begin as a capture of libpcap does.
@@ -89,7 +79,7 @@ fn is_packet_file(bytes: &[u8]) -> bool
 fn is_text_byte(byte: u8) -> bool
     ensures { result ≡ is_text_byte byte }
 {
-    byte == b'\t' || (b' ' <= byte && byte <= b'~') || byte == b'\n' || byte == b'\r'
+    is_printable(byte) || byte == b'\n' || byte == b'\r'
 }
 
 /// Whether the bytes are such ones alone.

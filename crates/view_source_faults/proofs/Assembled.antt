@@ -42,5 +42,6 @@ right_report text v s made insns e f = ap (λ l. (true, l)) f ∙ ap (report_of_
 
 -- and of code that isn't
 pub wrong_report : (text v : List ℕ) (s : Source) (made : Result (List Insn) AsmFlaw) (flaw : AsmFlaw) → made ≡ Err flaw →
-    v ≡ source_fault_text text (asm_flaw_line flaw) (asm_flaw_name flaw) (asm_flaw_span flaw) no_limits → ◌≡◌ {A = Bool × List ℕ} (false, v) (report_of_code text s made)
+    v ≡ source_fault_text text (asm_flaw_line flaw) (asm_flaw_name flaw) (asm_flaw_span flaw) no_limits →
+    ◌≡◌ {A = Bool × List ℕ} (false, v) (report_of_code text s made)
 wrong_report text v s made flaw e f = ap (λ l. (false, l)) f ∙ ap (report_of_code text s) (sym e)
