@@ -34,8 +34,8 @@ use Rattle.pcc_stages.specs.Stages.Containers.{container_for, container_in, code
 use Rattle.pcc_stages.specs.Stages.Packets.{packets_found, packets_in}
 use Rattle.pcc_stages.specs.Stages.Policies.{policy_spelled, policy_in}
 use Rattle.view_cli.specs.Commands.List.{lines_found, lines_in}
-use Rattle.view_cli.specs.Looks.{no_container_text}
-use Rattle.view_cli.specs.declared.looks.Look.{Look}
+use Rattle.view_looks.specs.Looks.{no_container_text}
+use Rattle.view_looks.specs.declared.looks.Look.{Look}
 
 -- the line begins with a letter before that of an unknown policy's
 abbrev pub BeginsBefore : List ℕ → Type 0

@@ -46,7 +46,7 @@ use Rattle.view_cli.specs.declared.limits.TheConstants.{MAX_FORMULA}
 use Rattle.view_cli.specs.Commands.Faults.{told_exit, formula_command, policy_command, source_command}
 use Rattle.view_cli.specs.Commands.Goals.{goals_found, goals_command}
 use Rattle.view_cli.specs.Commands.List.{lines_in, source_lines_of, listing_in, list_command}
-use Rattle.view_cli.specs.Looks.{look_of}
+use Rattle.view_looks.specs.Looks.{look_of}
 use Rattle.view_cli.specs.Commands.Packet.{traced_exit, where_started, packet_command}
 use Rattle.view_cli.specs.Tasks.{standing_if_found, view_task}
 use Rattle.view_cli.proofs.CommandStages.{listing_stage, lines_stage, goals_stage, goals_under, last_stage, code_stage, policy_stage}

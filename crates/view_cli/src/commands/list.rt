@@ -16,7 +16,6 @@ ghost use Rattle.view_cli.specs.Reports.{exit_of_report};
 
 use crate::ListArgs;
 use crate::commands::faults::text_of;
-use crate::looks::look_of;
 use crate::report::Report;
 use asm_text::{LineFault, SrcInsn, read_source};
 use file_port::Files;
@@ -25,6 +24,7 @@ use pcc_stages::{MAX_FILE, RefusedLine, Stop, bytes_of};
 use proof_container::{Flaw, Malformed, profile_of, read};
 use std::alloc::{AllocError, Global};
 use view_container::{ListFault, list};
+use view_looks::look_of;
 
 /// What bytes are found to be that were read as a container.
 #[derive(Clone, Copy, Debug, PartialEq, Eq)]
