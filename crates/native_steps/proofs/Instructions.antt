@@ -37,8 +37,8 @@ use Rattle.x86_machine.specs.declared.outcome.X86Step.TheVariants as steps
 use Rattle.x86_machine.specs.Flags.{alu_flags, cond_holds, AfterTest}
 use Rattle.x86_machine.specs.Machine.{X86, extended, disp_address, x86_outcome}
 use Rattle.x86_machine.proofs.Orders.{after_test}
-use Rattle.native_steps.specs.Places.{Places, ArePlaces, slot_address, RAX, RCX}
-use Rattle.native_steps.specs.Sequences.{fetch, computed_code, test_code, cond_test, branch_cond, action_code}
+use Rattle.native_steps.specs.Places.{Places, ArePlaces, IsSomewhere, is_somewhere, slot_address, RAX, RCX}
+use Rattle.native_steps.specs.Sequences.{ReadsPlaced, fetch, computed_code, test_code, cond_test, branch_cond, action_code}
 use Rattle.native_steps.specs.Agreement.{Call, area_span, IsLent, Agrees, EndsInAgreement, DecidesBranch, SimulatesInsn, Tests}
 use Rattle.native_steps.proofs.Straights.{Runs, none-run, then-run}
 use Rattle.native_steps.proofs.Frames.{wrote, SameBut, same-trans, wrote-same, wrote-reads, wrote-other, flags-same, agrees-same}
@@ -88,7 +88,7 @@ module _ (p : Places) (call : Call) (places : ArePlaces p) (s : State) (x : X86)
     abbrev after : ℕ → ℕ → State
     after to word = record s { index = s.index + 1; regs = write_reg s.regs to word }
 
-    load-comes : (base to : ℕ) (disp : ℤ) → base < 32 → to < 32 → allowed s.rights.reads (address_of s.regs base disp) ≡ true →
+    load-comes : (base to : ℕ) (disp : ℤ) → IsSomewhere p base → to < 32 → allowed s.rights.reads (address_of s.regs base disp) ≡ true →
         EndsInAgreement p call (action_code p (actions.Load to base disp)) x (after to (read s.memory (address_of s.regs base disp)))
     load-comes base to disp h k may =
         let a : ℕ = address_of s.regs base disp in
@@ -97,7 +97,7 @@ module _ (p : Places) (call : Call) (places : ArePlaces p) (s : State) (x : X86)
         (load-gives p call places s (with base 1) state lent (with-agree base 1 (omega arith)) disp (read_reg s.regs base) a
         (with-read base 1 (omega arith)) refl may))
 
-    load_around-comes : (base to : ℕ) (disp : ℤ) → base < 32 → to < 32 → allowed s.rights.reads (aligned (address_of s.regs base disp)) ≡ true →
+    load_around-comes : (base to : ℕ) (disp : ℤ) → IsSomewhere p base → to < 32 → allowed s.rights.reads (aligned (address_of s.regs base disp)) ≡ true →
         EndsInAgreement p call (action_code p (actions.LoadAround to base disp)) x (after to (read s.memory (aligned (address_of s.regs base disp))))
     load_around-comes base to disp h k may =
         let a : ℕ = address_of s.regs base disp in
@@ -131,7 +131,7 @@ module _ (p : Places) (call : Call) (places : ArePlaces p) (s : State) (x : X86)
 
     -- ---- a store
 
-    store-comes : (from base : ℕ) (disp : ℤ) → from < 32 → base < 32 → allowed s.rights.writes (address_of s.regs base disp) ≡ true →
+    store-comes : (from base : ℕ) (disp : ℤ) → IsSomewhere p from → IsSomewhere p base → allowed s.rights.writes (address_of s.regs base disp) ≡ true →
         EndsInAgreement p call (action_code p (actions.Store from base disp)) x
         (record s { index = s.index + 1; memory = write s.memory (address_of s.regs base disp) (read_reg s.regs from) })
     store-comes from base disp h k may =
@@ -177,10 +177,12 @@ module _ (p : Places) (call : Call) (places : ArePlaces p) (s : State) (x : X86)
             area = z-agrees.area;
             fuel = z-agrees.fuel;
             in_register = z-agrees.in_register;
-            in_area = λ r low none.
-                read-write_other z.memory a word (slot_address call.area r) (λ e. outside p call places a r low clear (sym e)) ∙ z-agrees.in_area r low none;
+            in_slot = λ r at_r.
+                read-write_other z.memory a word (slot_address call.area r)
+                (λ e. outside p call places a r (placed-below p call places r (ap is_somewhere at_r)) clear (sym e)) ∙ z-agrees.in_slot r at_r;
             saved = λ r q e c.
-                read-write_other z.memory a word (slot_address call.area r) (λ g. outside p call places a r (placed-below p call places r q e) clear (sym g))
+                read-write_other z.memory a word (slot_address call.area r)
+                (λ g. outside p call places a r (placed-below p call places r (ap is_somewhere e)) clear (sym g))
                 ∙ z-agrees.saved r q e c;
             untouched = z-agrees.untouched;
             memory = λ b free. elim (cases_eq b a) [
@@ -195,7 +197,7 @@ module _ (p : Places) (call : Call) (places : ArePlaces p) (s : State) (x : X86)
     -- ---- tests
 
     -- the test leaves flags, and they decide
-    decides : (cond : Cond) (r : ℕ) (f : ℕ → Flags) → r < 32 →
+    decides : (cond : Cond) (r : ℕ) (f : ℕ → Flags) → IsSomewhere p r →
         ((y : X86) → x86_outcome y (y.at + length_of (cond_test cond)) (cond_test cond)
         ≡ (steps.Moved, record y { at = y.at + length_of (cond_test cond); flags = Some (f (slice_index y.regs 0)) })) →
         cond_holds (branch_cond cond) (f (read_reg s.regs r)) ≡ takes cond (read_reg s.regs r) →
@@ -224,7 +226,7 @@ module _ (p : Places) (call : Call) (places : ArePlaces p) (s : State) (x : X86)
     abbrev lowest : ℕ → Flags
     lowest w = alu_flags alu.And w 1
 
-    module _ (r : ℕ) (h : r < 32) where
+    module _ (r : ℕ) (h : IsSomewhere p r) where
       says : AfterTest (read_reg s.regs r)
       says = after_test (read_reg s.regs r) (below r)
 
@@ -244,36 +246,36 @@ module _ (p : Places) (call : Call) (places : ArePlaces p) (s : State) (x : X86)
     at-index None y a = a
     at-index (Some j) y a = agrees-index p call places s j y a
 
-    acts : (e : Action) (jump : Option ℕ) (t : State) → HasOperands e → WritesRegister e → action_outcome e jump s ≡ (moves.Moved, t) →
+    acts : (e : Action) (jump : Option ℕ) (t : State) → HasOperands e → WritesRegister e → ReadsPlaced p e → action_outcome e jump s ≡ (moves.Moved, t) →
         EndsInAgreement p call (action_code p e) x t
-    acts (actions.Compute to (Sum base disp)) jump t h w e =
+    acts (actions.Compute to (Sum base disp)) jump t h w there e =
         subst (EndsInAgreement p call (action_code p (actions.Compute to (Sum base disp))) x) (ap (λ q. q.1) e)
         (given p call places (computed_code p (Sum base disp)) s to (address_of s.regs base disp) x state lent agrees w
-        (mod_below (read_reg s.regs base + extended disp) (2 ^ 64) (omega arith)) (sum-gives p call places s x state lent agrees base disp h.0))
-    acts (actions.Compute to (Applied op left right)) jump t h w e =
+        (mod_below (read_reg s.regs base + extended disp) (2 ^ 64) (omega arith)) (sum-gives p call places s x state lent agrees base disp there))
+    acts (actions.Compute to (Applied op left right)) jump t h w there e =
         subst (EndsInAgreement p call (action_code p (actions.Compute to (Applied op left right))) x) (ap (λ q. q.1) e)
         (given p call places (computed_code p (Applied op left right)) s to (word_computed s.regs (Applied op left right)) x state lent agrees w
         (word_of-below op (read_reg s.regs left) (rhs_word s.regs right) (below left) (rhs-below p call places s x state lent agrees right h.1))
-        (applied-gives p call places s x state lent agrees op left right h.0 h.1))
-    acts (actions.Load to base disp) jump t h w e =
+        (applied-gives p call places s x state lent agrees op left right there.0 there.1 h.1))
+    acts (actions.Load to base disp) jump t h w there e =
         let a : ℕ = address_of s.regs base disp in
         let m = access-moved _ (allowed s.rights.reads a) a s (after to (read s.memory a)) t e in
-        subst (EndsInAgreement p call (action_code p (actions.Load to base disp)) x) m.1 (load-comes base to disp h.0 w m.0)
-    acts (actions.LoadAround to base disp) jump t h w e =
+        subst (EndsInAgreement p call (action_code p (actions.Load to base disp)) x) m.1 (load-comes base to disp there w m.0)
+    acts (actions.LoadAround to base disp) jump t h w there e =
         let a : ℕ = aligned (address_of s.regs base disp) in
         let m = access-moved _ (allowed s.rights.reads a) a s (after to (read s.memory a)) t e in
-        subst (EndsInAgreement p call (action_code p (actions.LoadAround to base disp)) x) m.1 (load_around-comes base to disp h.0 w m.0)
-    acts (actions.Store from base disp) jump t h w e =
+        subst (EndsInAgreement p call (action_code p (actions.LoadAround to base disp)) x) m.1 (load_around-comes base to disp there w m.0)
+    acts (actions.Store from base disp) jump t h w there e =
         let a : ℕ = address_of s.regs base disp in
         let m = access-moved _ (allowed s.rights.writes a) a s (record s { index = s.index + 1; memory = write s.memory a (read_reg s.regs from) }) t e in
-        subst (EndsInAgreement p call (action_code p (actions.Store from base disp)) x) m.1 (store-comes from base disp h.2 h.0 m.0)
-    acts (actions.Branching Always) jump t h w e =
+        subst (EndsInAgreement p call (action_code p (actions.Store from base disp)) x) m.1 (store-comes from base disp there.0 there.1 m.0)
+    acts (actions.Branching Always) jump t h w there e =
         subst (EndsInAgreement p call [] x) (ap (λ q. q.1) e) (record { end = x; runs = refl; at = omega arith; agrees = at-index jump x agrees })
-    acts (actions.Branching (When cond r)) jump t h w e =
-        let c : EndsInAgreement p call (test_code p (When cond r)) x s = (tested r h cond).comes in
+    acts (actions.Branching (When cond r)) jump t h w there e =
+        let c : EndsInAgreement p call (test_code p (When cond r)) x s = (tested r there cond).comes in
         subst (EndsInAgreement p call (test_code p (When cond r)) x) (ap (λ q. q.1) e)
         (record { end = c.end; runs = c.runs; at = c.at; agrees = at-index (if passes s.regs (When cond r) then jump else Some (s.index + 1)) c.end c.agrees })
-    acts actions.Return jump t h w e = let wrong : moves.Returned ≡ moves.Moved = ap (λ q. q.0) e in cc
+    acts actions.Return jump t h w there e = let wrong : moves.Returned ≡ moves.Moved = ap (λ q. q.0) e in cc
 
 -- ---- each instruction
 
@@ -293,9 +295,9 @@ format-writes (F.Br disp) w h = tt
 format-writes F.Ret w h = tt
 
 pub simulates : SimulatesInsn
-simulates = λ p call insn s t x places encoded state lent agrees e.
+simulates = λ p call insn s t x places encoded there state lent agrees e.
     acts p call places s x state lent agrees (action_of insn) (jump_of s.index insn) t (action_of-operands insn encoded)
-    (format-writes (format_of insn) encoded.0 encoded.1) e
+    (format-writes (format_of insn) encoded.0 encoded.1) there e
 
 pub tests : Tests
-tests = λ p call cond r s x places h state lent agrees. tested p call places s x state lent agrees r h cond
+tests = λ p call cond r s x places there state lent agrees. tested p call places s x state lent agrees r there cond

@@ -1,20 +1,21 @@
 -- When a state of the processor agrees with one of the Alpha machine, and that the sequence of an instruction keeps it so.
-use Rattle.std.specs.Prelude.{◌≡◌, ℕ, ◌+◌, ◌<◌, true, false, List, ◌∷◌, slice_index, Some, None}
+use Rattle.std.specs.Prelude.{◌≡◌, ℕ, ◌+◌, true, false, List, ◌∷◌, slice_index, Some}
 use Rattle.word_ops.specs.Memory.{read}
 use Rattle.word_ops.specs.Rights.{Rights, IsSpan, in_span, allowed}
 use Rattle.word_ops.specs.Registers.{read_reg}
 use Rattle.alpha_words.specs.declared.insn.Cond.{Cond}
 use Rattle.alpha_words.specs.declared.insn.Insn.{Insn}
 use Rattle.alpha_cfg.specs.declared.outcome.Step.TheVariants.{Moved}
-use Rattle.alpha_cfg.specs.Actions.{When}
+use Rattle.alpha_cfg.specs.Actions.{When, action_of}
 use Rattle.alpha_cfg.specs.Flow.{IsInsn}
 use Rattle.alpha_cfg.specs.Machine.{State, IsState, insn_outcome, takes}
 use Rattle.x86_words.specs.declared.insn.X86Insn.{X86Insn}
 use Rattle.x86_machine.specs.declared.flags.Flags.{Flags}
 use Rattle.x86_machine.specs.Flags.{cond_holds}
 use Rattle.x86_machine.specs.Machine.{X86, IsX86}
-use Rattle.native_steps.specs.Places.{Places, ArePlaces, place_at, slot_address, is_callee_saved, FUEL, AREA}
-use Rattle.native_steps.specs.Sequences.{insn_code, test_code, branch_cond}
+use Rattle.native_steps.specs.declared.places.Place.TheVariants.{Register, Slot}
+use Rattle.native_steps.specs.Places.{Places, IsSomewhere, ArePlaces, place_at, slot_address, is_callee_saved, FUEL, AREA}
+use Rattle.native_steps.specs.Sequences.{ReadsPlaced, insn_code, test_code, branch_cond}
 use Rattle.native_steps.specs.Straight.{x86_straight, total_length}
 
 -- What a call lends and what it wants back: the area's address, the fuel that is left, and the registers when it began.
@@ -37,18 +38,18 @@ pub record IsLent (call : Call) (rights : Rights) : Type 0 where
   pub unread : (a : ℕ) → allowed rights.reads a ≡ true → in_span (area_span call) a ≡ false
   pub unwritten : (a : ℕ) → allowed rights.writes a ≡ true → in_span (area_span call) a ≡ false
 
--- The states agree: each Alpha register is in its place, memory outside the area is the Alpha machine's, and what the caller wants back is
+-- The states agree: each Alpha register that is somewhere is in its place, memory outside the area is the Alpha machine's, and what the caller wants back is
 -- in its register, or in the quadword of the Alpha register that took it. Index and offset are said apart.
 pub record Agrees (p : Places) (call : Call) (s : State) (x : X86) : Type 0 where
   pub machine : IsX86 x
   pub rights : x.rights ≡ native_rights call s.rights
   pub area : slice_index x.regs AREA ≡ call.area
   pub fuel : slice_index x.regs FUEL ≡ call.fuel
-  pub in_register : (r q : ℕ) → place_at p r ≡ Some q → slice_index x.regs q ≡ slice_index s.regs r
-  pub in_area : (r : ℕ) → r < 31 → place_at p r ≡ None → read x.memory (slot_address call.area r) ≡ slice_index s.regs r
-  pub saved : (r q : ℕ) → place_at p r ≡ Some q → is_callee_saved q ≡ true
+  pub in_register : (r q : ℕ) → place_at p r ≡ Register q → slice_index x.regs q ≡ slice_index s.regs r
+  pub in_slot : (r : ℕ) → place_at p r ≡ Slot → read x.memory (slot_address call.area r) ≡ slice_index s.regs r
+  pub saved : (r q : ℕ) → place_at p r ≡ Register q → is_callee_saved q ≡ true
       → read x.memory (slot_address call.area r) ≡ slice_index call.registers q
-  pub untouched : (q : ℕ) → is_callee_saved q ≡ true → ((r : ℕ) → place_at p r ≡ Some q → ⊥)
+  pub untouched : (q : ℕ) → is_callee_saved q ≡ true → ((r : ℕ) → place_at p r ≡ Register q → ⊥)
       → slice_index x.regs q ≡ slice_index call.registers q
   pub memory : (a : ℕ) → in_span (area_span call) a ≡ false → read x.memory a ≡ read s.memory a
 
@@ -68,10 +69,10 @@ pub record DecidesBranch (p : Places) (call : Call) (cond : Cond) (r : ℕ) (x :
 
 -- From states that agree, the sequence of an instruction that isn't blocked comes to what the instruction makes of the Alpha state.
 abbrev pub SimulatesInsn : Type 0
-SimulatesInsn = (p : Places) (call : Call) (insn : Insn) (s t : State) (x : X86) → ArePlaces p → IsInsn insn → IsState s → IsLent call s.rights
-    → Agrees p call s x → insn_outcome insn s ≡ (Moved, t) → EndsInAgreement p call (insn_code p insn) x t
+SimulatesInsn = (p : Places) (call : Call) (insn : Insn) (s t : State) (x : X86) → ArePlaces p → IsInsn insn → ReadsPlaced p (action_of insn) → IsState s
+    → IsLent call s.rights → Agrees p call s x → insn_outcome insn s ≡ (Moved, t) → EndsInAgreement p call (insn_code p insn) x t
 
 -- From states that agree, the test of a branch decides it.
 abbrev pub Tests : Type 0
-Tests = (p : Places) (call : Call) (cond : Cond) (r : ℕ) (s : State) (x : X86) → ArePlaces p → r < 32 → IsState s
+Tests = (p : Places) (call : Call) (cond : Cond) (r : ℕ) (s : State) (x : X86) → ArePlaces p → IsSomewhere p r → IsState s
     → IsLent call s.rights → Agrees p call s x → DecidesBranch p call cond r x s

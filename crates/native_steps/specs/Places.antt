@@ -1,16 +1,27 @@
 -- Where Alpha registers are while native code runs: in a register of the processor, or in a quadword of an area that the caller lends.
 -- System V Application Binary Interface, AMD64 Architecture Processor Supplement, section 3.2.1, figure 3.4, "Register Usage".
-use Rattle.std.specs.Prelude.{◌≡◌, ℕ, ◌+◌, ◌*◌, Bool, true, false, ◌&&◌, ◌||◌, not, ◌==◌, nat_le, nat_lt, List, length, get_or, replicate, Option}
-use Rattle.std.specs.Prelude.{Some, None, ℤ, pos}
+use Rattle.std.specs.Prelude.{◌≡◌, ◌⊎◌, ℕ, ◌+◌, ◌*◌, Bool, true, false, ◌&&◌, ◌||◌, not, ◌==◌, nat_le, nat_lt, List, length, get_or, replicate, ℤ}
+use Rattle.std.specs.Prelude.{pos}
+use Rattle.native_steps.specs.declared.places.Place.{Place}
+use Rattle.native_steps.specs.declared.places.Place.TheVariants.{Register, Nowhere}
 use Rattle.std.specs.List.{list_any}
 
--- For each of registers 0 to 30, the register of the processor that has it, if any. None: the quadword of the area that has its number.
+-- The places of registers 0 to 30.
 abbrev pub Places : Type 0
-Places = List (Option ℕ)
+Places = List Place
 
 -- the place of an Alpha register
-abbrev pub place_at : Places → ℕ → Option ℕ
-place_at p r = get_or p r None
+abbrev pub place_at : Places → ℕ → Place
+place_at p r = get_or p r Nowhere
+
+-- the code may read a register that has this place
+abbrev pub is_somewhere : Place → Bool
+is_somewhere Nowhere = false
+is_somewhere _ = true
+
+-- A register that may be read: register 31, which reads 0, or one that is somewhere.
+abbrev pub IsSomewhere : Places → ℕ → Type 0
+IsSomewhere p r = (r ≡ 31) ⊎ (is_somewhere (place_at p r) ≡ true)
 
 -- rax, the first temporary: results come here
 abbrev pub RAX : ℕ
@@ -39,23 +50,23 @@ is_callee_saved q = q == 3 || q == 4 || q == 5 || (nat_le 12 q && nat_lt q 16)
 -- Places of 31 registers, no two in one register of the processor.
 pub record ArePlaces (p : Places) : Type 0 where
   pub count : length p ≡ 31
-  pub free : (r q : ℕ) → place_at p r ≡ Some q → is_free q ≡ true
-  pub apart : (r k q : ℕ) → place_at p r ≡ Some q → place_at p k ≡ Some q → r ≡ k
+  pub free : (r q : ℕ) → place_at p r ≡ Register q → is_free q ≡ true
+  pub apart : (r k q : ℕ) → place_at p r ≡ Register q → place_at p k ≡ Register q → r ≡ k
 
--- the area has each register
-abbrev pub all_in_area : Places
-all_in_area = replicate 31 None
+-- no register is anywhere
+abbrev pub unplaced : Places
+unplaced = replicate 31 Nowhere
 
 -- whether a place is that register of the processor
-abbrev pub is_in : Option ℕ → ℕ → Bool
-is_in (Some own) q = own == q
-is_in None q = false
+abbrev pub is_in : Place → ℕ → Bool
+is_in (Register own) q = own == q
+is_in _ q = false
 
 -- whether that register of the processor has an Alpha register
 abbrev pub is_taken : Places → ℕ → Bool
 is_taken p q = list_any (λ place. is_in place q) p
 
--- Whether one may be assigned to it.
+-- Whether an Alpha register may be assigned to it.
 abbrev pub may_have : Places → ℕ → Bool
 may_have p q = is_free q && not (is_taken p q)
 

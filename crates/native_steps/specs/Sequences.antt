@@ -1,6 +1,6 @@
 -- What each Alpha instruction becomes, but for jumps: operands come into rax and rcx, the result is computed in rax and taken to its place.
 -- Alpha Architecture Handbook, the instruction descriptions; Intel 64 and IA-32 Architectures Software Developer's Manual, volume 2.
-use Rattle.std.specs.Prelude.{ℕ, ◌==◌, if◌then◌else◌, List, [], ◌∷◌, ◌++◌, Option, Some, None, ℤ, pos, negsuc}
+use Rattle.std.specs.Prelude.{ℕ, ◌==◌, if◌then◌else◌, List, [], ◌∷◌, ◌++◌, ℤ, pos, negsuc}
 use Rattle.word_ops.specs.declared.Op.{Op}
 use Rattle.word_ops.specs.declared.Op.TheVariants as ops
 use Rattle.alpha_words.specs.declared.insn.Rhs.{Rhs}
@@ -19,17 +19,21 @@ use Rattle.x86_words.specs.declared.insn.X86Insn.{X86Insn}
 use Rattle.x86_words.specs.declared.insn.X86Insn.TheVariants.{Mov, MovZero, Load, Store, Alu, AluImm, LeaScaled, ShiftImm, ShiftCl, TestImm, Set}
 use Rattle.x86_words.specs.declared.insn.X86Insn.TheVariants.{MovByte, MovTwo, MovFour}
 use Rattle.x86_words.specs.declared.insn.X86Insn.TheVariants as x86
-use Rattle.native_steps.specs.Places.{Places, place_at, slot, RAX, RCX, AREA}
+use Rattle.native_steps.specs.declared.places.Place.{Place}
+use Rattle.native_steps.specs.declared.places.Place.TheVariants.{Register, Slot, Nowhere}
+use Rattle.native_steps.specs.Places.{Places, IsSomewhere, place_at, slot, RAX, RCX, AREA}
 
--- the word of the Alpha register r, which is in this place, into a register
-abbrev pub fetch_place : Option ℕ → ℕ → ℕ → X86Insn
-fetch_place (Some q) r to = Mov to q
-fetch_place None r to = Load to AREA (slot r)
+-- the word of the Alpha register r, which is in this place, into a register; what is nowhere isn't read
+abbrev pub fetch_place : Place → ℕ → ℕ → X86Insn
+fetch_place (Register q) r to = Mov to q
+fetch_place Slot r to = Load to AREA (slot r)
+fetch_place Nowhere r to = MovZero to 0
 
 -- a register's word into that place
-abbrev pub keep_place : Option ℕ → ℕ → ℕ → X86Insn
-keep_place (Some q) r from = Mov q from
-keep_place None r from = Store AREA (slot r) from
+abbrev pub keep_place : Place → ℕ → ℕ → List X86Insn
+keep_place (Register q) r from = Mov q from ∷ []
+keep_place Slot r from = Store AREA (slot r) from ∷ []
+keep_place Nowhere r from = []
 
 -- rax := rax op rcx; rcx may change
 abbrev pub op_code : Op → List X86Insn
@@ -75,9 +79,9 @@ module _ (p : Places) where
   abbrev pub fetch : ℕ → ℕ → X86Insn
   fetch r to = if r == 31 then MovZero to 0 else fetch_place (place_at p r) r to
 
-  -- rax into an Alpha register, unless that is register 31
+  -- rax into an Alpha register's place, if it has one
   abbrev pub keep : ℕ → List X86Insn
-  keep r = if r == 31 then [] else keep_place (place_at p r) r RAX ∷ []
+  keep r = if r == 31 then [] else keep_place (place_at p r) r RAX
 
   -- the second operand into rcx
   abbrev pub fetch_rhs : Rhs → X86Insn
@@ -101,6 +105,22 @@ module _ (p : Places) where
   -- the quadword that holds the byte there into rax
   abbrev pub load_around_code : ℕ → ℤ → List X86Insn
   load_around_code base disp = fetch base RCX ∷ AluImm alu.Add RCX disp ∷ AluImm alu.And RCX (negsuc 7) ∷ Load RAX RCX (pos 0) ∷ []
+
+  -- the second operand may be read
+  abbrev pub RhsIsPlaced : Rhs → Type 0
+  RhsIsPlaced (Reg r) = IsSomewhere p r
+  RhsIsPlaced (Lit n) = Unit {0}
+
+  -- The registers that an action reads are placed.
+  abbrev pub ReadsPlaced : Action → Type 0
+  ReadsPlaced (actions.Compute to (Sum base disp)) = IsSomewhere p base
+  ReadsPlaced (actions.Compute to (Applied op left right)) = IsSomewhere p left × RhsIsPlaced right
+  ReadsPlaced (actions.Load to base disp) = IsSomewhere p base
+  ReadsPlaced (actions.LoadAround to base disp) = IsSomewhere p base
+  ReadsPlaced (actions.Store from base disp) = IsSomewhere p from × IsSomewhere p base
+  ReadsPlaced (actions.Branching Always) = Unit {0}
+  ReadsPlaced (actions.Branching (When cond r)) = IsSomewhere p r
+  ReadsPlaced actions.Return = IsSomewhere p 0
 
   -- What an action becomes. Branches and returns go on with jumps, which aren't part of it.
   abbrev pub action_code : Action → List X86Insn

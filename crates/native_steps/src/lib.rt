@@ -1,8 +1,8 @@
 //! The native sequences of Alpha instructions: x86-64 instructions that do what an Alpha instruction
 //! does, but for jumps.
 //!
-//! An Alpha register is in a register of the processor, or in a quadword of an area that the caller
-//! lends: the places. A sequence brings operands into rax and rcx, computes in rax, and brings the
+//! An Alpha register is in a register of the processor, in a quadword of an area that the caller
+//! lends, or nowhere, if the code never reads it: the places. A sequence brings operands into rax and rcx, computes in rax, and brings the
 //! result to its place. The definitions are in `specs/`:
 //!
 //! - `Places`: places, and the registers with other tasks;
@@ -21,6 +21,6 @@ mod places;
 mod sequences;
 mod theorems;
 
-pub use places::{Places, is_callee_saved, is_free};
+pub use places::{Place, Places, is_callee_saved, is_free};
 pub use sequences::branch_cond;
 pub use theorems::laws;

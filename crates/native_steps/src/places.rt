@@ -1,6 +1,6 @@
 //! Places of Alpha registers, and the instructions that bring words from there and back.
 
-ghost use Rattle.std.specs.Prelude.{◌≡◌, ◌<◌, Some, set, if◌then◌else◌};
+ghost use Rattle.std.specs.Prelude.{◌≡◌, ◌<◌, set, if◌then◌else◌};
 ghost use Rattle.native_steps.specs.Places as places;
 ghost use Rattle.native_steps.specs.Sequences as sequences;
 
@@ -23,14 +23,14 @@ pub(crate) fn rcx() -> X86Reg
 }
 
 /// r11, the area's address.
-fn area() -> X86Reg
+pub(crate) fn area() -> X86Reg
     ensures { result ≡ places.AREA }
 {
     X86Reg::new(11)
 }
 
 /// Returns the distance in bytes from the area's address to the quadword of an Alpha register.
-fn slot(r: Reg) -> i32
+pub(crate) fn slot(r: Reg) -> i32
     ensures { result ≡ places.slot r }
 {
     8 * r.number().cast_signed()
@@ -50,28 +50,39 @@ pub fn is_callee_saved(reg: X86Reg) -> bool
     matches!(reg.number(), 3..=5 | 12..=15)
 }
 
+/// Where an Alpha register is.
+#[derive(Clone, Copy, Debug, PartialEq, Eq)]
+pub enum Place {
+    /// In this register of the processor.
+    Register(X86Reg),
+    /// In the quadword of the area that has the Alpha register's number.
+    Slot,
+    /// Nowhere: the code never reads it.
+    Nowhere,
+}
+
 /// Checks whether the place is that register of the processor.
-fn is_in(place: Option<X86Reg>, reg: X86Reg) -> bool
+fn is_in(place: Place, reg: X86Reg) -> bool
     ensures { result ≡ places.is_in place reg }
 {
     match place {
-        Some(own) => own.number() == reg.number(),
-        None => false,
+        Place::Register(own) => own.number() == reg.number(),
+        _ => false,
     }
 }
 
-/// Where each of the Alpha registers 0 to 30 is: in a register of the processor, or in the quadword
-/// of the area that has its number.
+/// Where each of the Alpha registers 0 to 30 is.
 #[derive(Drop)]
 pub struct Places {
-    regs: [Option<X86Reg>; 31],
+    regs: [Place; 31],
 }
 
 impl Model for Places {
-    ghost use Rattle.std.specs.Prelude.{ℕ, List, Option};
+    ghost use Rattle.std.specs.Prelude.{List};
+    ghost use Rattle.native_steps.specs.declared.places.Place.{Place};
     ghost use Rattle.native_steps.specs.Places.{ArePlaces};
 
-    ghost Value = { List (Option ℕ) };
+    ghost Value = { List Place };
 
     ghost view = { λ p. p.regs };
 
@@ -79,26 +90,37 @@ impl Model for Places {
 }
 
 impl Places {
-    /// Creates places in which the area has each Alpha register.
-    pub fn in_area() -> Places
-        ensures { result ≡ places.all_in_area }
+    /// Creates places in which each Alpha register is nowhere.
+    pub fn nowhere() -> Places
+        ensures { result ≡ places.unplaced }
     {
-        Places { regs: [None; 31] }
+        Places {
+            regs: [Place::Nowhere; 31],
+        }
     }
 
-    /// Assigns an Alpha register to a register of the processor, and returns true, if that one is
-    /// free and has none. Else returns false, and nothing changes.
+    /// Assigns an Alpha register to a register of the processor, and returns true. If that one isn't
+    /// free, or has an Alpha register, returns false, and nothing changes.
     pub fn assign(&mut self, r: Reg, to: X86Reg) -> bool
         requires { r < 31 }
         ensures may { result ≡ places.may_have self.old to }
-        ensures after { self.new ≡ (if result then set self.old r (Some to) else self.old) }
+        ensures after { self.new
+            ≡ (if result then set self.old r (Place.Register to) else self.old) }
     {
         if self.may_have(to) {
-            self.regs[r.number() as usize] = Some(to);
+            self.regs[r.number() as usize] = Place::Register(to);
             true
         } else {
             false
         }
+    }
+
+    /// Assigns an Alpha register to its quadword of the area.
+    pub fn assign_slot(&mut self, r: Reg)
+        requires { r < 31 }
+        ensures { self.new ≡ set self.old r Place.Slot }
+    {
+        self.regs[r.number() as usize] = Place::Slot;
     }
 
     /// Checks whether an Alpha register may be assigned to the register of the processor.
@@ -115,9 +137,8 @@ impl Places {
         self.regs.iter().copied().any(|place| is_in(place, reg))
     }
 
-    /// Returns the register of the processor that has the Alpha register, or None if the area has
-    /// it.
-    pub fn place(&self, r: Reg) -> Option<X86Reg>
+    /// Returns the place of an Alpha register.
+    pub fn place(&self, r: Reg) -> Place
         requires { r < 31 }
         ensures { result ≡ places.place_at self.now r }
     {
@@ -133,12 +154,13 @@ impl Places {
             return X86Insn::MovZero { to, imm: 0 };
         }
         match self.place(r) {
-            Some(from) => X86Insn::Mov { to, from },
-            None => X86Insn::Load {
+            Place::Register(from) => X86Insn::Mov { to, from },
+            Place::Slot => X86Insn::Load {
                 to,
                 base: area(),
                 disp: slot(r),
             },
+            Place::Nowhere => X86Insn::MovZero { to, imm: 0 },
         }
     }
 
@@ -151,21 +173,6 @@ impl Places {
             Rhs::Lit(n) => X86Insn::MovZero {
                 to: rcx(),
                 imm: u32::from(n),
-            },
-        }
-    }
-
-    /// Returns the instruction that brings rax into the place of an Alpha register.
-    pub(crate) fn keep(&self, r: Reg) -> X86Insn
-        requires { r < 31 }
-        ensures { result ≡ sequences.keep_place (places.place_at self.now r) r places.RAX }
-    {
-        match self.place(r) {
-            Some(to) => X86Insn::Mov { to, from: rax() },
-            None => X86Insn::Store {
-                base: area(),
-                disp: slot(r),
-                from: rax(),
             },
         }
     }

@@ -4,7 +4,7 @@ ghost use Rattle.std.specs.Prelude.{◌≡◌, ◌++◌, ◌∷◌, [], OnOk};
 ghost use Rattle.alpha_cfg.specs.Actions as actions;
 ghost use Rattle.native_steps.specs.Sequences as sequences;
 
-use crate::places::{Places, rax, rcx};
+use crate::places::{Place, Places, area, rax, rcx, slot};
 use alpha_words::{Cond, Insn, Reg, Rhs};
 use std::alloc::AllocError;
 use word_ops::Op;
@@ -162,16 +162,26 @@ fn push_op(out: &mut Vec<X86Insn>, op: Op) -> Result<(), AllocError>
 }
 
 impl Places {
-    /// Appends the instruction that brings rax into an Alpha register, unless that is register 31.
+    /// Appends the instruction that brings rax into the place of an Alpha register, if it has one.
     /// Errors: out of memory.
-    fn push_keep(&self, out: &mut Vec<X86Insn>, to: Reg) -> Result<(), AllocError>
-        ensures { OnOk result (out.new.items ≡ out.old.items ++ sequences.keep self.now to) }
+    fn push_keep(&self, out: &mut Vec<X86Insn>, r: Reg) -> Result<(), AllocError>
+        ensures { OnOk result (out.new.items ≡ out.old.items ++ sequences.keep self.now r) }
     {
-        if to.number() == 31 {
+        if r.number() == 31 {
             return Ok(());
         }
-        out.push(self.keep(to))?;
-        Ok(())
+        match self.place(r) {
+            Place::Register(to) => out.extend_from_slice(&[X86Insn::Mov { to, from: rax() }]),
+            Place::Slot => {
+                let store = X86Insn::Store {
+                    base: area(),
+                    disp: slot(r),
+                    from: rax(),
+                };
+                out.extend_from_slice(&[store])
+            }
+            Place::Nowhere => Ok(()),
+        }
     }
 
     /// Appends the instructions that bring the sum of a register and a displacement into rax. Errors:
