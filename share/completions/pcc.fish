@@ -38,7 +38,7 @@ complete -c pcc -n '__pcc_at asm 0' -a 'filter tag table' -d policy
 complete -c pcc -n '__pcc_at asm 1' -F
 complete -c pcc -n '__pcc_at asm 2' -F
 complete -c pcc -n '__fish_seen_subcommand_from asm' -l v2 -d 'version 2 of the container, with the instructions of profile 2'
-complete -c pcc -n '__fish_seen_subcommand_from asm' -l bound -x -d 'version 3 of the container, with the bound N on its steps'
+complete -c pcc -n '__fish_seen_subcommand_from asm' -l bound -x -d 'version 3 of the container, with a bound on its steps'
 complete -c pcc -n __fish_use_subcommand -a prove -d 'prove the container IN and write it with the proof to OUT'
 complete -c pcc -n '__pcc_at prove 0' -a 'filter tag table' -d policy
 complete -c pcc -n '__pcc_at prove 1' -F

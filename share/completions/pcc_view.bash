@@ -53,7 +53,7 @@ _pcc_view() {
     list) kinds=(file file) ;;
     goals) kinds=(policy_or_file file) ;;
     packet) kinds=(policy_or_file file file number) flags='--steps' ;;
-    formula) kinds=(file) ;;
+    formula) kinds=(file) flags='--v2 --bound --policy' ;;
     source) kinds=(file) flags='--v2 --bound' ;;
   esac
   kind=${kinds[values]-none}

@@ -46,11 +46,14 @@ complete -c pcc_view -n '__pcc_view_at packet 0' -a '(__pcc_view_policy_file)'
 complete -c pcc_view -n '__pcc_view_at packet 1' -F
 complete -c pcc_view -n '__pcc_view_at packet 2' -F
 complete -c pcc_view -n '__fish_seen_subcommand_from packet' -l steps -x -d 'the most steps of a packet, 1000000 if not given'
-complete -c pcc_view -n __fish_use_subcommand -a formula -d 'where a formula is wrong'
+complete -c pcc_view -n __fish_use_subcommand -a formula -d 'where a formula is wrong, or the two of a policy'\''s file'
 complete -c pcc_view -n '__pcc_view_at formula 0' -F
+complete -c pcc_view -n '__fish_seen_subcommand_from formula' -l v2 -d 'version 2 of the container, with the instructions of profile 2'
+complete -c pcc_view -n '__fish_seen_subcommand_from formula' -l bound -d 'version 3 of the container, with a bound on its steps'
+complete -c pcc_view -n '__fish_seen_subcommand_from formula' -l policy -d 'the file is a policy'\''s, with two formulas'
 complete -c pcc_view -n __fish_use_subcommand -a source -d 'where a source is wrong, as pcc asm reads it'
 complete -c pcc_view -n '__pcc_view_at source 0' -F
 complete -c pcc_view -n '__fish_seen_subcommand_from source' -l v2 -d 'version 2 of the container, with the instructions of profile 2'
-complete -c pcc_view -n '__fish_seen_subcommand_from source' -l bound -x -d 'version 3 of the container, with the bound N on its steps'
+complete -c pcc_view -n '__fish_seen_subcommand_from source' -l bound -x -d 'version 3 of the container, with a bound on its steps'
 complete -c pcc_view -n __fish_use_subcommand -l help -d 'print the forms of the commands, with examples'
 complete -c pcc_view -n __fish_use_subcommand -l version -d 'print the version, and which containers it reads'

@@ -1,6 +1,7 @@
 -- What a host of many agents holds, and what loading one comes to.
-use Rattle.std.specs.Prelude.{◌≡◌, ◌≢◌, ◌%◌, ◌^◌, ℕ, List, slice_get, slice_set, Bool, true, false}
+use Rattle.std.specs.Prelude.{◌≡◌, ◌≢◌, ◌%◌, ◌^◌, ℕ, List, length, slice_get, slice_set, Bool, true, false}
 use Rattle.std.specs.Prelude.{Option, Some, None}
+use Rattle.reference_machine.specs.declared.layout.TheConstants.{QUADWORDS}
 use Rattle.reference_machine.specs.Arena.{map_of, sum_of}
 use Rattle.reference_machine.specs.Starts.{StartView}
 use Rattle.packet_store.specs.PolicyStarts.{start_from}
@@ -34,10 +35,11 @@ abbrev pub LoadsPacket : List ℕ → Bool → HostedView → HostedView → Typ
 LoadsPacket packet loaded was is =
     LoadsAt (start_from was.base was.accepted.policy.kind packet) loaded was is
 
--- what holds of each agent of a host, by its place: where its part begins, and that some rights fit
--- while it may run
+-- what holds of each agent of a host, by its place: where its part begins, how many quadwords it
+-- has, and that some rights fit while it may run
 pub record IsHostedAt (a : ℕ) (m : HostedView) : Type 0 where
   pub base : m.base ≡ base_of a
+  pub words : length m.words ≡ QUADWORDS
   pub rights : m.phase ≡ phases.Ready → SomeRightsFit m
 
 -- agent a has been loaded

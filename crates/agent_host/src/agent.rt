@@ -1,6 +1,7 @@
 //! An agent of a host: accepted code and its part of the arena.
 
 ghost use Rattle.std.specs.Prelude.{◌≡◌, ◌≢◌, ◌≤◌, ◌<◌, ◌+◌, ◌%◌, ◌^◌, IfOk, length};
+ghost use Rattle.reference_machine.specs.declared.layout.TheConstants.{QUADWORDS};
 ghost use Rattle.reference_machine.specs.Arena.{sum_of, map_of};
 ghost use Rattle.packet_store.specs.declared.reader.TheConstants.{MAX_PACKET};
 ghost use Rattle.agent_host.specs.Agents.{SomeRightsFit};
@@ -155,10 +156,11 @@ impl Hosted {
         &self.accepted
     }
 
-    /// States the theorem about every agent; nothing is run. While an agent may run, some rights
-    /// fit it.
+    /// States the theorems about every agent; nothing is run. Its part has `QUADWORDS` quadwords.
+    /// While it may run, some rights fit it.
     pub fn laws(&self)
-        ensures { self.now.phase ≡ Phase.Ready → SomeRightsFit self.now }
+        ensures words { length self.now.words ≡ QUADWORDS }
+        ensures rights { self.now.phase ≡ Phase.Ready → SomeRightsFit self.now }
     {
         let _ = &self.phase; // opens the invariant for the prover
     }

@@ -7,6 +7,7 @@ ghost use Rattle.packet_store.specs.declared.reader.TheConstants.{MAX_PACKET};
 ghost use Rattle.agent_host.specs.Agents.{HostedView, base_of};
 ghost use Rattle.agent_host.specs.Hosts.{Replaces, LoadsPacket, IsHostedAt, IsLoadedAt, SumsTo};
 ghost use Rattle.agent_host.specs.Turns.{TurnsTo};
+ghost use Rattle.agent_host.specs.Worlds.{TurnsWorlds};
 
 use crate::agent::Hosted;
 use crate::phase::Phase;
@@ -93,11 +94,13 @@ impl AgentHost {
     /// Runs agent `a`, which is loaded, for at most `budget` steps (a return counts), and returns
     /// how its turn ended. Runs nothing if the agent has returned since its last load. Tests no
     /// access. If the agent's steps are bounded, a budget of at least the bound ends with a return.
-    /// Every other agent is unchanged. Takes no memory.
+    /// Every other agent is unchanged (`replaces`). Seen as a world of alpha_turns, all agents in one
+    /// memory, the host is the world after this turn (`world`). Takes no memory.
     pub fn turn(&mut self, a: u32, budget: u64) -> Turned
         requires agent { a < length self.old }
         requires loaded { IsLoadedAt self.old a }
-        ensures { Replaces (TurnsTo budget result) a self.old self.new }
+        ensures replaces { Replaces (TurnsTo budget result) a self.old self.new }
+        ensures world { TurnsWorlds (record { agent = a; budget = budget }) self.old self.new }
     {
         self.agents[a as usize].turn(budget)
     }
@@ -120,8 +123,8 @@ impl AgentHost {
         self.agents[a as usize].accepted()
     }
 
-    /// States the theorems about agent `a`; nothing is run. They say where its part begins, and
-    /// that some rights fit the agent while it may run.
+    /// States the theorems about agent `a`; nothing is run. They say where its part begins, how
+    /// many quadwords it has, and that some rights fit the agent while it may run.
     pub fn laws(&self, a: u32)
         requires { a < length self.now }
         ensures { (m : HostedView) → slice_get self.now a ≡ Some m → IsHostedAt a m }

@@ -8,8 +8,8 @@
 //! - Agents that share one memory, each with rights only in its own part, behave as if each had a
 //!   memory of its own (`part_laws`).
 //!
-//! So a host of many agents specifies what one turn does to one agent, and no proof about it
-//! mentions two. Turns are defined in `specs/Turns`, parts in `specs/Parts`, and runs in
+//! So a host of many agents specifies what one turn does to one agent, and that it is such a memory
+//! (`agent_host::world_laws`). Turns are defined in `specs/Turns`, parts in `specs/Parts`, and runs in
 //! alpha_cfg's `specs/Machine`.
 //!
 //! Source: Necula and Lee, Safe Kernel Extensions Without Run-Time Checking, OSDI 1996, for code of

@@ -21,7 +21,10 @@ use std::marker::Model;
 /// Accepted code with its predecoded operations, its registers, and an arena of 8,194 quadwords
 /// from address 65,536 on. A host holds no rights: while it is `live`, some rights fit it, under
 /// which the code accesses nothing that isn't allowed. From number `end` on all words of the arena
-/// are 0: nothing was written there, and these rights allow no store there.
+/// are 0: nothing was written there, and these rights allow no store there. `load` makes `end` of
+/// the packet's length in quadwords and of the spans that the start may store to: it is the least
+/// number after all of these (`reach`). Only the next `load` reads it, to clear no more than it has
+/// to; no step and no sum does.
 #[derive(Drop)]
 pub struct Host {
     pub(crate) accepted: Accepted,

@@ -15,6 +15,8 @@
 mod ended;
 mod host;
 mod runner;
+#[cfg(test)]
+mod tests;
 mod theorems;
 
 pub use ended::Counted;

@@ -17,6 +17,7 @@ use Rattle.packet_store.specs.declared.fault.PacketFault.{PacketFault}
 use Rattle.packet_store.specs.declared.fault.PacketFault.TheVariants as packet_fault
 use Rattle.packet_store.specs.PacketDecoding.{decoded_packets}
 use Rattle.proof_container.specs.Contents.{Contents}
+use Rattle.proof_container.specs.declared.fault.Flaw.{Flaw}
 use Rattle.proof_container.specs.Decoding.{Fault, decoded_container}
 use Rattle.proof_container.specs.Versions.{profile_of}
 use Rattle.pcc_gate.specs.ForPolicy.{is_for}
@@ -32,7 +33,9 @@ use Rattle.pcc_stages.specs.Stages.Common.{refused}
 use Rattle.pcc_stages.specs.Stages.Containers.{container_for, container_in, code_found, code_in}
 use Rattle.pcc_stages.specs.Stages.Packets.{packets_found, packets_in}
 use Rattle.pcc_stages.specs.Stages.Policies.{policy_spelled, policy_in}
-use Rattle.view_cli.specs.Commands.List.{container_found, lines_found, lines_in}
+use Rattle.view_cli.specs.Commands.List.{lines_found, lines_in}
+use Rattle.view_looks.specs.Looks.{no_container_text}
+use Rattle.view_looks.specs.declared.looks.Look.{Look}
 
 -- the line begins with a letter before that of an unknown policy's
 abbrev pub BeginsBefore : List ℕ → Type 0
@@ -72,6 +75,12 @@ refusal_begins r = before (refusal_line r) 114 (refusal_letter r) (omega arith)
 refused_so : {A : Type 0} (s : Stage A) (r : Refusal) → s ≡ stops (refused (refusal_line r)) → EndsAs s
 refused_so s r is = refused_by (refusal_line r) (refusal_begins r) is
 
+pub no_container_begins : (offset : ℕ) (flaw : Flaw) (look : Look)
+    → BeginsBefore (no_container_text offset flaw look)
+unfolding refusal_line
+no_container_begins offset flaw look =
+    before (no_container_text offset flaw look) 114 refl (omega arith)
+
 source_fault_begins : (number : ℕ) (kind : List ℕ) → BeginsBefore (source_fault_line number kind)
 unfolding source_fault_line
 source_fault_begins number kind = before (source_fault_line number kind) 108 refl (omega arith)
@@ -95,10 +104,6 @@ unfolding policy_form_line
 policy_form_begins line position kind = before (policy_form_line line position kind) 112 refl (omega arith)
 
 -- ---- stages
-
-pub contents_end : (r : Result Contents Fault) → EndsAs (container_found r)
-contents_end (Ok c) = gave c refl
-contents_end (Err fault) = refused_so _ (refusal.Malformed fault.0 fault.1) refl
 
 lines_end : (r : Result Source (ℕ × LineFlaw)) → EndsAs (lines_found r)
 lines_end (Ok s) = gave _ refl

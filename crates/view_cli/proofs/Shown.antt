@@ -7,7 +7,6 @@ use Rattle.file_port.specs.Events.{whole, missing, too_long, failed, no_memory, 
 use Rattle.file_port.specs.Files.{FilesState}
 use Rattle.file_port.specs.Sink.{SinkState}
 use Rattle.word_ops.specs.declared.Profile.{Profile}
-use Rattle.word_ops.specs.declared.Profile.TheVariants.{Two}
 use Rattle.alpha_words.specs.declared.insn.Insn.{Insn}
 use Rattle.alpha_cfg.specs.declared.fault.CodeFlaw.{CodeFlaw}
 use Rattle.alpha_cfg.specs.CodeDecoding.{decoded_code}
@@ -30,6 +29,7 @@ use Rattle.policy_set.specs.Names.{policy_of}
 use Rattle.policy_set.specs.PolicyText.{SpellsPolicy, policy_read}
 use Rattle.policy_set.specs.Views.{PolicyView}
 use Rattle.policy_set.specs.declared.fault.PolicyFlaw.{PolicyFlaw}
+use Rattle.policy_set.specs.declared.fault.PolicyFlaw.TheVariants as policy_flaw
 use Rattle.policy_set.specs.declared.kind.PolicyKind.{PolicyKind}
 use Rattle.packet_store.specs.declared.fault.PacketFault.{PacketFault}
 use Rattle.packet_store.specs.declared.results.PacketResult.{PacketResult}
@@ -56,13 +56,15 @@ use Rattle.view_goal_text.specs.Texts.{goal_lines_text}
 use Rattle.view_goal_text.specs.Listing.{goal_parts, parts_lines, goals_text, goals_of_code, goals_read, listed_unless, goals_of_bytes}
 use Rattle.view_trace.specs.Traces.{trace_from, packet_text}
 use Rattle.view_faults.specs.FormReports.{without_lf, formula_line, form_fault_text, report_of_form, formula_report}
-use Rattle.view_faults.specs.Laws.{IsTokenFlaw}
-use Rattle.view_faults.specs.Marking.{Span, marked_line}
-use Rattle.view_faults.specs.SourceLines.{numbered_line}
-use Rattle.view_faults.specs.SourceReports.{source_line, source_fault_text, fault_lines, report_of_code, report_of_source, source_report}
-use Rattle.view_faults.specs.Spans.{flaw_span, asm_flaw_span}
+use Rattle.view_source_faults.specs.Laws.{IsTokenFlaw}
+use Rattle.view_faults.specs.Marking.{Span, marked_line, no_limits, fault_lines}
+use Rattle.view_faults.specs.PolicyReports.{policy_forms, policy_fault_text, report_of_policy, policy_report}
+use Rattle.view_faults.specs.Lines.{numbered_line}
+use Rattle.view_source_faults.specs.SourceReports.{source_line, source_fault_text, report_of_code, report_of_source, source_report}
+use Rattle.view_source_faults.specs.Spans.{flaw_span, asm_flaw_span, flaw_limits}
 use Rattle.pcc_words.specs.Invocations.{PolicyWord, named, from_file}
 use Rattle.pcc_lines.specs.Fixed.{container_too_long_line, packets_too_long_line, policy_too_long_line, source_too_long_line}
+use Rattle.pcc_lines.specs.Policies.{policy_lines_line, policy_length_line}
 use Rattle.pcc_lines.specs.Results.{result_line, result_lines}
 use Rattle.pcc_lines.specs.Sources.{source_fault_line}
 use Rattle.pcc_stages.specs.Exits.{Exit}
@@ -74,21 +76,23 @@ use Rattle.pcc_stages.specs.declared.files.TheConstants.{MAX_FILE, MAX_POLICY_FI
 use Rattle.pcc_stages.specs.Stages.Common.{refused, policy_found, ending}
 use Rattle.pcc_stages.specs.Stages.Containers.{code_in, code_of}
 use Rattle.pcc_stages.specs.Stages.Packets.{packets_found, packets_in, packets_of}
-use Rattle.pcc_stages.specs.Stages.Policies.{policy_spelled, policy_in, policy_from, policy_told}
+use Rattle.pcc_stages.specs.Stages.Policies.{no_policy_spelled, policy_spelled, policy_in, policy_from, policy_told}
 use Rattle.view_cli.specs.Invocations.{ViewInvocation}
 use Rattle.view_cli.specs.Invocations as views
 use Rattle.view_cli.specs.Texts.{view_texts, formula_too_long_line}
 use Rattle.view_cli.specs.declared.limits.TheConstants.{MAX_FORMULA}
-use Rattle.view_cli.specs.Commands.Faults.{told_exit, formula_command, source_command}
+use Rattle.view_cli.specs.Commands.Faults.{told_exit, formula_command, policy_command, source_command}
 use Rattle.view_cli.specs.Commands.Goals.{goals_found, goals_command}
-use Rattle.view_cli.specs.Commands.List.{container_found, lines_found, lines_in, source_lines_of, list_command}
-use Rattle.view_cli.specs.Commands.Packet.{packet_exit, packet_command}
+use Rattle.view_cli.specs.Commands.List.{lines_found, lines_in, source_lines_of, listing_in, list_command}
+use Rattle.view_cli.specs.Commands.Packet.{traced_exit, where_started, packet_command}
 use Rattle.view_cli.specs.Tasks.{view_task}
-use Rattle.view_cli.specs.Headline.{IsToldBy, AreLinesOf, ListsContents, first_hard_part, ListsGoals, EndsWithLine, TracesPacket, SaysOfForm, IsToldWithMark, SaysOfSource, SaysOf, IsShown, RunShows, came_to, ran_out, ShowsIfCommand}
+use Rattle.view_cli.specs.Headline.{IsToldBy, AreLinesOf, ListsContents, first_hard_part, ListsGoals, EndsWithLine, TracesPacket}
+use Rattle.view_cli.specs.Headline.{SaysOfForm, SaysOfPolicy, IsToldWithMark, SaysOfSource, SaysOf, SaysOfText, IsShown, RunShows}
+use Rattle.view_cli.specs.Headline.{came_to, ran_out, ShowsIfCommand}
 use Rattle.view_cli.proofs.Always.{Always, always_comes}
 use Rattle.view_cli.proofs.CommandStages.{listing_stage, lines_stage, goals_stage, goals_under, last_stage, code_stage, policy_stage}
 use Rattle.view_cli.proofs.LineNumbers.{line_numbers}
-use Rattle.view_cli.proofs.PureStages.{EndsAs, gave, refused_by, had_no_memory, contents_end, code_end, packets_in_end, policy_in_end}
+use Rattle.view_cli.proofs.PureStages.{EndsAs, gave, refused_by, had_no_memory, code_end, packets_in_end, policy_in_end}
 
 -- what the definitions beneath are worth
 pub record ViewLaws : Type 0 where
@@ -162,10 +166,6 @@ value_of other s = other
 gives_none : {A B : Type 0} (x : A) (exit : Exit) → stops exit ≡ gives x → B
 gives_none x exit is = absurd (true≢false (ap is_stop is))
 
-contents_are : (r : Result Contents Fault) (c : Contents) → container_found r ≡ gives c → r ≡ Ok c
-contents_are (Ok d) c is = ap (λ (s : Stage Contents). Ok (value_of c s)) is
-contents_are (Err fault) c is = gives_none c _ is
-
 packets_are : (r : Result (List (List ℕ)) PacketFault) (all : List (List ℕ))
     → packets_found r ≡ gives all → r ≡ Ok all
 packets_are (Ok d) all is = ap (λ (s : Stage (List (List ℕ))). Ok (value_of all s)) is
@@ -238,16 +238,19 @@ module _ (laws : ViewLaws) (file : List ℕ) where
       list_parsed b octets c is from text short
       (parsed_source (profile_of c.version) (is_some c.bound) text) refl)
 
+  list_in : (from : Option (List ℕ)) (b : List ℕ) → IsBytes b → (r : Result Contents Fault)
+      → decoded_container b ≡ r
+      → Always view_texts (Done (Listed from b)) (listing_in from b r >>= ending)
+  list_in from b octets (Ok c) is = list_with b octets c is from
+  list_in from b octets (Err fault) is = λ z. refused_none z
+
   list_shows : (from : Option (List ℕ))
       → Always view_texts (IsShown (views.list file from)) (list_command file from >>= ending)
   unfolding list_command
   list_shows from =
       reads_on (ListsContents file from) file MAX_FILE container_too_long_line
-      (λ b. (container_found (decoded_container b) >>= lines_stage from) >>= ending)
-      (λ b octets short.
-      goes_on (Listed from b) (λ (y : Stage Contents). (y >>= lines_stage from) >>= ending)
-      (λ exit. refl) (container_found (decoded_container b)) (contents_end (decoded_container b))
-      (λ c is. list_with b octets c (contents_are (decoded_container b) c is) from))
+      (λ b. listing_in from b (decoded_container b) >>= ending)
+      (λ b octets short. list_in from b octets (decoded_container b) refl)
 
 -- ---- commands under a policy
 
@@ -454,17 +457,20 @@ module _ (laws : ViewLaws) (file packets : List ℕ) (k steps : ℕ) (word : Pol
 
   packet_traced : (told : List Event) (under : PolicyView) → IsToldBy word told under
       → (b : List ℕ) (code : List Insn) → code_in under b ≡ gives code → (d : List ℕ)
-      (all : List (List ℕ)) → decoded_packets d ≡ Ok all → (o : Option (List ℕ))
-      → slice_get all k ≡ o
+      (all : List (List ℕ)) → decoded_packets d ≡ Ok all → (o : Option PolicyKind)
+      → under.kind ≡ o → (p : Option (List ℕ)) → slice_get all k ≡ p
       → Always view_texts
       (Done (λ es. Traced (told ++ was_read file MAX_FILE (whole b)
       ∷ was_read packets MAX_FILE (whole d) ∷ es)))
-      (ending (packet_exit under code steps k o))
-  packet_traced told under tells b code code_is d all read None there = λ z. refused_none z
-  packet_traced told under tells b code code_is d all read (Some packet) there = (
+      (ending (where_started o (traced_exit under code steps k p)))
+  packet_traced told under tells b code code_is d all read None is p there = λ z. refused_none z
+  packet_traced told under tells b code code_is d all read (Some kind) is None there =
+      λ z. refused_none z
+  packet_traced told under tells b code code_is d all read (Some kind) is (Some packet) there = (
     refl,
     λ z. record {
       policy = under;
+      kind = kind;
       told = told;
       bytes = b;
       code = code;
@@ -473,6 +479,7 @@ module _ (laws : ViewLaws) (file packets : List ℕ) (k steps : ℕ) (word : Pol
       packet = packet;
       reads = refl;
       tells = tells;
+      built_in = is;
       code_is = code_is;
       packets_are = read;
       there = there;
@@ -497,7 +504,7 @@ module _ (laws : ViewLaws) (file packets : List ℕ) (k steps : ℕ) (word : Pol
       (λ (y : Stage (List (List ℕ))). (y >>= last_stage under code steps k) >>= ending)
       (λ exit. refl) (packets_in d) (packets_in_end d) (λ all is.
       packet_traced told under tells b code code_is d all
-      (packets_are (decoded_packets d) all is) (slice_get all k) refl))
+      (packets_are (decoded_packets d) all is) under.kind refl (slice_get all k) refl))
 
   packet_shows : Always view_texts (IsShown (views.packet word file packets k steps))
       (packet_command word file packets k steps >>= ending)
@@ -512,15 +519,15 @@ module _ (laws : ViewLaws) (file packets : List ℕ) (k steps : ℕ) (word : Pol
       (λ exit. refl) (code_in under b) (code_end under b) (λ code is.
       code_traced told under tells b code is)))
 
--- ---- `formula` and `source`
+-- ---- `formula`
 
 -- one read, and what is said of what it gave
-says_of : (file : List ℕ) (Says : List ℕ → Exit → Type 0) (on : List ℕ → Stage Effect)
+says_of : (file : List ℕ) (max : ℕ) (long : List ℕ) (Says : List ℕ → Exit → Type 0)
+    (on : List ℕ → Stage Effect)
     → ((b : List ℕ)
-    → Always view_texts (λ es. SaysOf file Says (was_read file MAX_SOURCE (whole b) ∷ es)) (on b))
-    → Always view_texts (SaysOf file Says)
-    (reads file MAX_SOURCE (refused source_too_long_line) on)
-says_of file Says on each = (
+    → Always view_texts (λ es. SaysOf file max long Says (was_read file max (whole b) ∷ es)) (on b))
+    → Always view_texts (SaysOf file max long Says) (reads file max (refused long) on)
+says_of file max long Says on each = (
   λ b octets short. each b,
   record { given = missing; one_read = refl; said = refl },
   record { given = too_long; one_read = refl; said = refl },
@@ -529,9 +536,14 @@ says_of file Says on each = (
 )
 
 -- what is said of the bytes of the one read
-said_of : (file : List ℕ) (Says : List ℕ → Exit → Type 0) (b : List ℕ) (exit : Exit) → Says b exit
-    → SaysOf file Says (was_read file MAX_SOURCE (whole b) ∷ []) exit
-said_of file Says b exit says = record { given = whole b; one_read = refl; said = says }
+said_of : (file : List ℕ) (max : ℕ) (long : List ℕ) (Says : List ℕ → Exit → Type 0) (b : List ℕ)
+    (exit : Exit) → Says b exit → SaysOf file max long Says (was_read file max (whole b) ∷ []) exit
+said_of file max long Says b exit says = record { given = whole b; one_read = refl; said = says }
+
+-- the same of the text of a formula or of a source
+said_of_text : (file : List ℕ) (Says : List ℕ → Exit → Type 0) (b : List ℕ) (exit : Exit)
+    → Says b exit → SaysOfText file Says (was_read file MAX_SOURCE (whole b) ∷ []) exit
+said_of_text file Says b exit says = said_of file MAX_SOURCE source_too_long_line Says b exit says
 
 -- a value, or one that is none
 abbrev ok_value : {X Y : Type 0} → X → Result X Y → X
@@ -551,80 +563,148 @@ same_err r a b h k = ap (err_value a) (sym h ∙ k)
 ok_or_err : {X Y Z : Type 0} (r : Result X Y) (a : X) (b : Y) → r ≡ Ok a → r ≡ Err b → Z
 ok_or_err r a b h k = absurd (true≢false (ap is_ok (sym h ∙ k)))
 
-module _ (laws : ViewLaws) (text : List ℕ) where
+module _ (laws : ViewLaws) (p : Profile) (left : Bool) (text : List ℕ) where
   -- what is parsed
   abbrev bare : List ℕ
   bare = without_lf text
 
-  form_right : length text ≤ MAX_FORMULA → (F : Form) → parsed_form Two true bare ≡ Ok F
-      → SaysOfForm text (done_exit (formula_line F))
+  form_right : length text ≤ MAX_FORMULA → (F : Form) → parsed_form p left bare ≡ Ok F
+      → SaysOfForm p left text (done_exit (formula_line F))
   form_right short F parsed =
-      let spelled : Spells Two true bare F = (laws.forms Two true bare F).1 parsed in
+      let spelled : Spells p left bare F = (laws.forms p left bare F).1 parsed in
       record {
         done = (λ z. (short, (F, spelled)), λ h. refl);
         right = λ G fits spells.
             ap (λ (x : Form). done_exit (formula_line x))
-            (same_ok (parsed_form Two true bare) F G parsed ((laws.forms Two true bare G).0 spells));
+            (same_ok (parsed_form p left bare) F G parsed ((laws.forms p left bare G).0 spells));
         wrong = λ at flaw fits fails.
-            ok_or_err (parsed_form Two true bare) F (at, flaw) parsed fails;
+            ok_or_err (parsed_form p left bare) F (at, flaw) parsed fails;
         too_long = λ long. absurd (omega (arith, short, long));
       }
 
   form_wrong : length text ≤ MAX_FORMULA → (at : ℕ) (flaw : TextFlaw)
-      → parsed_form Two true bare ≡ Err (at, flaw)
-      → SaysOfForm text (refused (form_fault_text bare (at, flaw)))
+      → parsed_form p left bare ≡ Err (at, flaw)
+      → SaysOfForm p left text (refused (form_fault_text bare (at, flaw)))
   form_wrong short at flaw parsed = record {
     done = (
       λ z. refused_none z,
-      λ h. ok_or_err (parsed_form Two true bare) h.1.0 (at, flaw)
-          ((laws.forms Two true bare h.1.0).0 h.1.1) parsed,
+      λ h. ok_or_err (parsed_form p left bare) h.1.0 (at, flaw)
+          ((laws.forms p left bare h.1.0).0 h.1.1) parsed,
     );
     right = λ F fits spells.
-        ok_or_err (parsed_form Two true bare) F (at, flaw)
-        ((laws.forms Two true bare F).0 spells) parsed;
-    wrong = λ p f fits fails. (
-      laws.form_faults Two true bare p f fails,
+        ok_or_err (parsed_form p left bare) F (at, flaw)
+        ((laws.forms p left bare F).0 spells) parsed;
+    wrong = λ q f fits fails. (
+      laws.form_faults p left bare q f fails,
       ap (λ (x : FaultAt). refused (form_fault_text bare x))
-          (same_err (parsed_form Two true bare) (at, flaw) (p, f) parsed fails),
+          (same_err (parsed_form p left bare) (at, flaw) (q, f) parsed fails),
     );
     too_long = λ long. absurd (omega (arith, short, long));
   }
 
-  form_long : MAX_FORMULA < length text → SaysOfForm text (refused formula_too_long_line)
+  form_long : MAX_FORMULA < length text → SaysOfForm p left text (refused formula_too_long_line)
   form_long long = record {
     done = (λ z. refused_none z, λ h. let fits = h.0 in absurd (omega (arith, fits, long)));
     right = λ F fits spells. absurd (omega (arith, fits, long));
-    wrong = λ p f fits fails. absurd (omega (arith, fits, long));
+    wrong = λ q f fits fails. absurd (omega (arith, fits, long));
     too_long = λ _. refl;
   }
 
+  -- what was read
+  abbrev FormAlways : List ℕ → Stage Effect → Type 0
+  FormAlways file =
+      Always view_texts
+      (λ es. SaysOfText file (SaysOfForm p left) (was_read file MAX_SOURCE (whole text) ∷ es))
+
   form_said : (file : List ℕ) → length text ≤ MAX_FORMULA → (r : Result Form FaultAt)
-      → parsed_form Two true bare ≡ r
-      → Always view_texts (λ es. SaysOf file SaysOfForm (was_read file MAX_SOURCE (whole text) ∷ es))
-      (ending (told_exit (report_of_form bare r)))
+      → parsed_form p left bare ≡ r → FormAlways file (ending (told_exit (report_of_form bare r)))
   form_said file short (Ok F) parsed =
-      (refl, said_of file SaysOfForm text _ (form_right short F parsed))
+      (refl, said_of_text file (SaysOfForm p left) text _ (form_right short F parsed))
   form_said file short (Err (at, flaw)) parsed =
-      said_of file SaysOfForm text _ (form_wrong short at flaw parsed)
+      said_of_text file (SaysOfForm p left) text _ (form_wrong short at flaw parsed)
 
   form_told : (file : List ℕ) (long : Bool) → nat_lt MAX_FORMULA (length text) ≡ long
-      → Always view_texts (λ es. SaysOf file SaysOfForm (was_read file MAX_SOURCE (whole text) ∷ es))
-      (ending (if long then refused formula_too_long_line else told_exit (formula_report text)))
+      → FormAlways file
+      (ending
+      (if long then refused formula_too_long_line else told_exit (formula_report p left text)))
   unfolding formula_report
   form_told file true is =
-      said_of file SaysOfForm text _ (form_long (ltb-true MAX_FORMULA (length text) is))
+      said_of_text file (SaysOfForm p left) text _ (form_long (ltb-true MAX_FORMULA (length text) is))
   form_told file false is =
-      form_said file (ltb-false MAX_FORMULA (length text) is) (parsed_form Two true bare) refl
+      form_said file (ltb-false MAX_FORMULA (length text) is) (parsed_form p left bare) refl
 
-formula_shows : ViewLaws → (file : List ℕ)
-    → Always view_texts (IsShown (views.formula file)) (formula_command file >>= ending)
+formula_shows : ViewLaws → (file : List ℕ) (p : Profile) (left : Bool)
+    → Always view_texts (IsShown (views.formula file p left)) (formula_command file p left >>= ending)
 unfolding formula_command
-formula_shows laws file =
-    says_of file SaysOfForm
+formula_shows laws file p left =
+    says_of file MAX_SOURCE source_too_long_line (SaysOfForm p left)
     (λ b. ending
     (if nat_lt MAX_FORMULA (length b) then refused formula_too_long_line
-    else told_exit (formula_report b)))
-    (λ b. form_told laws b file (nat_lt MAX_FORMULA (length b)) refl)
+    else told_exit (formula_report p left b)))
+    (λ b. form_told laws p left b file (nat_lt MAX_FORMULA (length b)) refl)
+
+-- ---- `formula --policy`
+
+-- what is said of a fault begins with the line that `pcc check` prints of it
+as_checked : (text : List ℕ) (flaw : PolicyFlaw)
+    → (shown : List ℕ) × (policy_fault_text text flaw ≡ (no_policy_spelled flaw).text ++ shown)
+as_checked text (policy_flaw.Lines count) = ([], sym (append-nil (policy_lines_line count)))
+as_checked text (policy_flaw.Length line) = ([], sym (append-nil (policy_length_line line)))
+as_checked text (policy_flaw.Form line at what) =
+    (fault_lines (λ l. Some (at, 0)) no_limits (numbered_line text line), refl)
+
+module _ (laws : ViewLaws) (text : List ℕ) where
+  policy_right : (policy : PolicyView) → policy_read text ≡ Ok policy
+      → SaysOfPolicy text (done_exit (policy_forms policy))
+  policy_right policy read = record {
+    done = (λ z. (policy, (laws.policies text policy).1 read), λ h. refl);
+    right = λ other spells.
+        ap (λ (x : PolicyView). done_exit (policy_forms x))
+        (same_ok (policy_read text) policy other read ((laws.policies text other).0 spells));
+    wrong = λ fault fails. ok_or_err (policy_read text) policy fault read fails;
+    as_checked = λ fault fails. ok_or_err (policy_read text) policy fault read fails;
+  }
+
+  policy_wrong : (fault : PolicyFlaw) → policy_read text ≡ Err fault
+      → SaysOfPolicy text (refused (policy_fault_text text fault))
+  policy_wrong fault read = record {
+    done = (
+      λ z. refused_none z,
+      λ h. ok_or_err (policy_read text) h.0 fault ((laws.policies text h.0).0 h.1) read,
+    );
+    right = λ policy spells.
+        ok_or_err (policy_read text) policy fault ((laws.policies text policy).0 spells) read;
+    wrong = λ other fails.
+        ap (λ (x : PolicyFlaw). refused (policy_fault_text text x))
+        (same_err (policy_read text) fault other read fails);
+    as_checked = λ other fails.
+        let same : fault ≡ other = same_err (policy_read text) fault other read fails in
+        let checked = as_checked text other in
+        (checked.0, ap (policy_fault_text text) same ∙ checked.1);
+  }
+
+  policy_said : (file : List ℕ) (r : Result PolicyView PolicyFlaw) → policy_read text ≡ r
+      → Always view_texts
+      (λ es. SaysOf file MAX_POLICY_FILE policy_too_long_line SaysOfPolicy
+      (was_read file MAX_POLICY_FILE (whole text) ∷ es))
+      (ending (told_exit (report_of_policy text r)))
+  policy_said file (Ok policy) read = (
+    refl,
+    said_of file MAX_POLICY_FILE policy_too_long_line SaysOfPolicy text _
+        (policy_right policy read),
+  )
+  policy_said file (Err fault) read =
+      said_of file MAX_POLICY_FILE policy_too_long_line SaysOfPolicy text _ (policy_wrong fault read)
+
+policy_shows : ViewLaws → (file : List ℕ)
+    → Always view_texts (IsShown (views.policy_formulas file)) (policy_command file >>= ending)
+unfolding policy_command policy_report
+policy_shows laws file =
+    says_of file MAX_POLICY_FILE policy_too_long_line SaysOfPolicy
+    (λ b. ending (told_exit (policy_report b)))
+    (λ b. policy_said laws b file (policy_read b) refl)
+
+-- ---- `source`
 
 -- the value that there is
 some_of : {A : Type 0} (o : Option A) → IsSome o → (x : A) × (o ≡ Some x)
@@ -651,7 +731,7 @@ module _ (laws : ViewLaws) (version : ℕ) (bound : Option ℕ) (text : List ℕ
   source_exit fault =
       refused
       (source_fault_text text fault.0 (line_flaw_name fault.1)
-      (flaw_span profile (is_some bound) fault.1))
+      (flaw_span profile (is_some bound) fault.1) (flaw_limits profile fault.1))
 
   source_right : (s : Source) → parsed ≡ Ok s → (code : List Insn)
       → assembled_code profile s ≡ Ok code → SaysOfSource version bound text (done_exit (source_line s))
@@ -673,7 +753,8 @@ module _ (laws : ViewLaws) (version : ℕ) (bound : Option ℕ) (text : List ℕ
   source_unassembled : (s : Source) → parsed ≡ Ok s → (flaw : AsmFlaw)
       → assembled_code profile s ≡ Err flaw
       → SaysOfSource version bound text
-      (refused (source_fault_text text (asm_flaw_line flaw) (asm_flaw_name flaw) (asm_flaw_span flaw)))
+      (refused
+      (source_fault_text text (asm_flaw_line flaw) (asm_flaw_name flaw) (asm_flaw_span flaw) no_limits))
   source_unassembled s is flaw none = record {
     done = (
       λ z. refused_none z,
@@ -691,7 +772,8 @@ module _ (laws : ViewLaws) (version : ℕ) (bound : Option ℕ) (text : List ℕ
         let same : s ≡ r = same_ok parsed s r is (parsed_as r spells) in
         ap
         (λ (x : AsmFlaw).
-        refused (source_fault_text text (asm_flaw_line x) (asm_flaw_name x) (asm_flaw_span x)))
+        refused
+        (source_fault_text text (asm_flaw_line x) (asm_flaw_name x) (asm_flaw_span x) no_limits))
         (same_err (assembled_code profile s) flaw other none
         (ap (assembled_code profile) same ∙ other_is));
     marked = λ n other token fails. ok_or_err parsed s (n, other) is (fails_as n other fails);
@@ -703,6 +785,7 @@ module _ (laws : ViewLaws) (version : ℕ) (bound : Option ℕ) (text : List ℕ
   source_marked n flaw is token =
       let m = laws.marked profile (is_some bound) text n flaw token is in
       let span = flaw_span profile (is_some bound) flaw in
+      let limits = flaw_limits profile flaw in
       let some = some_of (span m.0) m.2 in
       let head = source_fault_line n (line_flaw_name flaw) in
       record {
@@ -711,8 +794,8 @@ module _ (laws : ViewLaws) (version : ℕ) (bound : Option ℕ) (text : List ℕ
         line_is = m.1;
         span_is = some.1;
         said =
-            ap (λ (o : Option (List ℕ)). refused (head ++ fault_lines span o)) m.1
-            ∙ ap (λ (o : Option Span). refused (head ++ marked_line m.0 o)) some.1;
+            ap (λ (o : Option (List ℕ)). refused (head ++ fault_lines span limits o)) m.1
+            ∙ ap (λ (o : Option Span). refused (head ++ marked_line m.0 o (limits m.0))) some.1;
       }
 
   source_wrong : (n : ℕ) (flaw : LineFlaw) → parsed ≡ Err (n, flaw)
@@ -737,28 +820,28 @@ module _ (laws : ViewLaws) (version : ℕ) (bound : Option ℕ) (text : List ℕ
   abbrev SaidAlways : List ℕ → Stage Effect → Type 0
   SaidAlways file =
       Always view_texts
-      (λ es. SaysOf file (SaysOfSource version bound) (was_read file MAX_SOURCE (whole text) ∷ es))
+      (λ es. SaysOfText file (SaysOfSource version bound) (was_read file MAX_SOURCE (whole text) ∷ es))
 
   code_said : (file : List ℕ) (s : Source) → parsed ≡ Ok s → (r : Result (List Insn) AsmFlaw)
       → assembled_code profile s ≡ r → SaidAlways file (ending (told_exit (report_of_code text s r)))
   code_said file s is (Ok code) made =
-      (refl, said_of file (SaysOfSource version bound) text _ (source_right s is code made))
+      (refl, said_of_text file (SaysOfSource version bound) text _ (source_right s is code made))
   code_said file s is (Err flaw) none =
-      said_of file (SaysOfSource version bound) text _ (source_unassembled s is flaw none)
+      said_of_text file (SaysOfSource version bound) text _ (source_unassembled s is flaw none)
 
   source_said : (file : List ℕ) (r : Result Source (ℕ × LineFlaw)) → parsed ≡ r
       → SaidAlways file (ending (told_exit (report_of_source profile (is_some bound) text r)))
   unfolding source_exit
   source_said file (Ok s) is = code_said file s is (assembled_code profile s) refl
   source_said file (Err (n, flaw)) is =
-      said_of file (SaysOfSource version bound) text _ (source_wrong n flaw is)
+      said_of_text file (SaysOfSource version bound) text _ (source_wrong n flaw is)
 
 source_shows : ViewLaws → (file : List ℕ) (version : ℕ) (bound : Option ℕ)
     → Always view_texts (IsShown (views.source file version bound))
     (source_command file version bound >>= ending)
 unfolding source_command source_report
 source_shows laws file version bound =
-    says_of file (SaysOfSource version bound)
+    says_of file MAX_SOURCE source_too_long_line (SaysOfSource version bound)
     (λ b. ending (told_exit (source_report version bound b)))
     (λ b. source_said laws version bound b file
     (parsed_source (profile_of version) (is_some bound) b) refl)
@@ -772,7 +855,8 @@ always_shown laws (views.list file from) = list_shows laws file from
 always_shown laws (views.goals word file) = goals_show laws file word
 always_shown laws (views.packet word file packets k steps) =
     packet_shows laws file packets k steps word
-always_shown laws (views.formula file) = formula_shows laws file
+always_shown laws (views.formula file p left) = formula_shows laws file p left
+always_shown laws (views.policy_formulas file) = policy_shows laws file
 always_shown laws (views.source file version bound) = source_shows laws file version bound
 always_shown laws views.help = (refl, (refl, refl))
 always_shown laws views.version = (refl, (refl, refl))

@@ -3,7 +3,6 @@
 use Rattle.std.proofs.Common.{◌≡◌, ◌≢◌, ℕ, Bool, true, false, List, [], ◌∷◌, length, get_or, slice_get, if◌then◌else◌, nat_lt, Option, Some, None, is_some, Result, Ok, Err, Contains, refl, sym, ap, ◌∙◌, subst, arith, inl, inr}
 use Rattle.alpha_words.specs.declared.insn.Insn.{Insn}
 use Rattle.word_ops.specs.declared.Profile.{Profile}
-use Rattle.word_ops.specs.declared.Profile.TheVariants.{Two}
 use Rattle.formula_tree.specs.Formulas.{Form}
 use Rattle.formula_text.specs.Parsing.{FaultAt, parsed_form}
 use Rattle.asm_text.specs.declared.fault.LineFlaw.{LineFlaw}
@@ -13,16 +12,22 @@ use Rattle.asm_text.specs.SourceParsing.{parsed_source}
 use Rattle.pcc_asm.specs.declared.fault.AsmFlaw.{AsmFlaw}
 use Rattle.pcc_asm.specs.Assembling.{assembled_code}
 use Rattle.policy_set.specs.Names.{policy_of}
+use Rattle.policy_set.specs.PolicyText.{policy_read}
 use Rattle.policy_set.specs.Views.{PolicyView}
+use Rattle.policy_set.specs.declared.fault.PolicyFlaw.{PolicyFlaw}
+use Rattle.policy_set.specs.declared.fault.PolicyFlaw.TheVariants as policy_flaw
+use Rattle.policy_set.specs.declared.kind.PolicyKind.{PolicyKind}
 use Rattle.proof_container.specs.Contents.{Contents}
-use Rattle.proof_container.specs.Decoding.{decoded_container}
+use Rattle.proof_container.specs.Decoding.{Fault, decoded_container}
 use Rattle.proof_container.specs.Versions.{profile_of}
 use Rattle.pcc_gate.specs.declared.refusal.Refusal.{Refusal}
 use Rattle.view_goal_text.specs.Listing.{goals_of_bytes}
 use Rattle.view_faults.specs.FormReports.{without_lf, form_fault_line, form_fault_text, report_of_form, formula_report}
-use Rattle.view_faults.specs.SourceReports.{report_of_code, report_of_source, source_report}
+use Rattle.view_faults.specs.PolicyReports.{report_of_policy, policy_report}
+use Rattle.view_source_faults.specs.SourceReports.{report_of_code, report_of_source, source_report}
 use Rattle.pcc_words.specs.Invocations.{named, from_file}
 use Rattle.pcc_lines.specs.Fixed.{container_too_long_line, packets_too_long_line, policy_too_long_line, source_too_long_line, unknown_policy_line}
+use Rattle.pcc_lines.specs.Policies.{policy_lines_line, policy_length_line, policy_form_line}
 use Rattle.pcc_lines.specs.Refusals.{refusal_line}
 use Rattle.pcc_lines.specs.Sources.{source_fault_line}
 use Rattle.pcc_stages.specs.Exits.{Exit}
@@ -36,15 +41,17 @@ use Rattle.pcc_stages.specs.Stages.Packets.{packets_in, packets_of}
 use Rattle.pcc_stages.specs.Stages.Policies.{policy_in, policy_from}
 use Rattle.view_cli.specs.Invocations.{ViewInvocation}
 use Rattle.view_cli.specs.Invocations as views
-use Rattle.view_cli.specs.Texts.{view_texts, formula_too_long_line, absent_packet_line}
+use Rattle.view_cli.specs.Texts.{view_texts, formula_too_long_line, absent_packet_line, no_start_line}
 use Rattle.view_cli.specs.declared.limits.TheConstants.{MAX_FORMULA}
-use Rattle.view_cli.specs.Commands.Faults.{told_exit, formula_command, source_command}
+use Rattle.view_cli.specs.Commands.Faults.{told_exit, formula_command, policy_command, source_command}
 use Rattle.view_cli.specs.Commands.Goals.{goals_found, goals_command}
-use Rattle.view_cli.specs.Commands.List.{container_found, lines_in, source_lines_of, list_command}
-use Rattle.view_cli.specs.Commands.Packet.{packet_exit, packet_command}
+use Rattle.view_cli.specs.Commands.List.{lines_in, source_lines_of, listing_in, list_command}
+use Rattle.view_looks.specs.Looks.{look_of}
+use Rattle.view_cli.specs.Commands.Packet.{traced_exit, where_started, packet_command}
 use Rattle.view_cli.specs.Tasks.{standing_if_found, view_task}
 use Rattle.view_cli.proofs.CommandStages.{listing_stage, lines_stage, goals_stage, goals_under, last_stage, code_stage, policy_stage}
-use Rattle.view_cli.proofs.PureStages.{BeginsBefore, EndsAs, gave, refused_by, had_no_memory, refusal_begins, contents_end, lines_in_end, code_end, packets_in_end, policy_in_end}
+use Rattle.view_cli.proofs.PureStages.{BeginsBefore, EndsAs, gave, refused_by, had_no_memory, refusal_begins, no_container_begins}
+use Rattle.view_cli.proofs.PureStages.{lines_in_end, code_end, packets_in_end, policy_in_end}
 
 -- a line that begins with another letter isn't that of an unknown policy
 other_line : (line : List ℕ) → BeginsBefore line → line ≢ unknown_policy_line
@@ -92,15 +99,24 @@ module _ (names : List (List ℕ)) where
       let first : get_or (form_fault_text text fault) 0 0 ≡ 102 = refl in
       inl (stop_line (form_fault_text text fault) (omega (arith, first)))
 
-  short_form_fits : (text : List ℕ) (long : Bool)
+  short_form_fits : (p : Profile) (left : Bool) (text : List ℕ) (long : Bool)
       → Fits
       (ending
-      (if long then refused formula_too_long_line else told_exit (formula_report text)))
+      (if long then refused formula_too_long_line else told_exit (formula_report p left text)))
   unfolding formula_report formula_too_long_line
-  short_form_fits text true =
+  short_form_fits p left text true =
       let first : get_or formula_too_long_line 0 0 ≡ 102 = refl in
       inl (stop_line formula_too_long_line (omega (arith, first)))
-  short_form_fits text false = form_fits (without_lf text) (parsed_form Two true (without_lf text))
+  short_form_fits p left text false =
+      form_fits (without_lf text) (parsed_form p left (without_lf text))
+
+  policy_fits : (text : List ℕ) (r : Result PolicyView PolicyFlaw)
+      → Fits (ending (told_exit (report_of_policy text r)))
+  unfolding policy_lines_line policy_length_line policy_form_line
+  policy_fits text (Ok policy) = refl
+  policy_fits text (Err (policy_flaw.Lines count)) = inl (stop_line _ (omega arith))
+  policy_fits text (Err (policy_flaw.Length line)) = inl (stop_line _ (omega arith))
+  policy_fits text (Err (policy_flaw.Form line at what)) = inl (stop_line _ (omega arith))
 
   code_fits : (text : List ℕ) (s : Source) (r : Result (List Insn) AsmFlaw)
       → Fits (ending (told_exit (report_of_code text s r)))
@@ -116,13 +132,16 @@ module _ (names : List (List ℕ)) where
 
   -- ---- `packet`
 
-  packet_fits : (under : PolicyView) (code : List Insn) (steps k : ℕ) (o : Option (List ℕ))
-      → Fits (ending (packet_exit under code steps k o))
-  unfolding absent_packet_line
-  packet_fits under code steps k None =
+  packet_fits : (under : PolicyView) (code : List Insn) (steps k : ℕ) (o : Option PolicyKind)
+      (p : Option (List ℕ)) → Fits (ending (where_started o (traced_exit under code steps k p)))
+  unfolding absent_packet_line no_start_line
+  packet_fits under code steps k None p =
+      let first : get_or no_start_line 0 0 ≡ 110 = refl in
+      inl (stop_line no_start_line (omega (arith, first)))
+  packet_fits under code steps k (Some kind) None =
       let first : get_or (absent_packet_line k) 0 0 ≡ 110 = refl in
       inl (stop_line (absent_packet_line k) (omega (arith, first)))
-  packet_fits under code steps k (Some packet) = refl
+  packet_fits under code steps k (Some kind) (Some packet) = refl
 
 -- ---- commands that begin with a policy
 
@@ -169,7 +188,7 @@ traced_fits names file packets k steps first second under =
     (λ b. (packets_in b >>= last_stage under code steps k) >>= ending) second (omega arith) (λ b.
     goes_on names (λ (y : Stage (List (List ℕ))). (y >>= last_stage under code steps k) >>= ending)
     (λ exit. refl) (packets_in b) (packets_in_end b) (λ all.
-    packet_fits names under code steps k (slice_get all k)))))
+    packet_fits names under code steps k under.kind (slice_get all k)))))
 
 -- ---- all commands
 
@@ -187,15 +206,21 @@ plain_fits : (names : List (List ℕ)) (c : Contents)
 unfolding source_lines_of
 plain_fits names c = refl
 
+listing_fits : (names : List (List ℕ)) (from : Option (List ℕ)) (b : List ℕ)
+    (r : Result Contents Fault) → ((c : Contents) → Fits names (lines_stage from c >>= ending))
+    → Fits names (listing_in from b r >>= ending)
+listing_fits names from b (Ok c) each = each c
+listing_fits names from b (Err fault) each =
+    inl (stop_line _ (no_container_begins fault.0 fault.1 (look_of b)))
+
 list_fits : (names : List (List ℕ)) (file : List ℕ) (from : Option (List ℕ)) → Contains names file
     → ((c : Contents) → Fits names (lines_stage from c >>= ending))
     → Fits names (list_command file from >>= ending)
 unfolding list_command
 list_fits names file from listed each =
     reads_on names file MAX_FILE container_too_long_line
-    (λ b. (container_found (decoded_container b) >>= lines_stage from) >>= ending) listed (omega arith)
-    (λ b. goes_on names (λ (y : Stage Contents). (y >>= lines_stage from) >>= ending) (λ exit. refl)
-    (container_found (decoded_container b)) (contents_end (decoded_container b)) each)
+    (λ b. listing_in from b (decoded_container b) >>= ending) listed (omega arith)
+    (λ b. listing_fits names from b (decoded_container b) each)
 
 -- the only name, the first, the second, the third
 only : (a : List ℕ) → Contains (a ∷ []) a
@@ -219,7 +244,7 @@ third_of_three a b c = (2, omega arith, refl)
 -- what the arguments ask for is suited
 pub suited : (o : Option ViewInvocation)
     → let task = view_task o in IsSuited view_texts task.standing task.names task.stage
-unfolding goals_command packet_command formula_command source_command source_report
+unfolding goals_command packet_command formula_command policy_command policy_report source_command source_report
 suited None = inl (record { suits = refl; some = omega arith; in_range = omega arith })
 suited (Some (views.list file None)) =
     let names : List (List ℕ) = file ∷ [] in
@@ -245,13 +270,18 @@ suited (Some (views.packet (from_file name) file packets k steps)) =
     told_fits names (policy_stage file packets steps k) name (first_of_three name file packets)
     (traced_fits names file packets k steps (second_of_three name file packets)
     (third_of_three name file packets))
-suited (Some (views.formula file)) =
+suited (Some (views.formula file p left)) =
     let names : List (List ℕ) = file ∷ [] in
     reads_on names file MAX_SOURCE source_too_long_line
     (λ b. ending
     (if nat_lt MAX_FORMULA (length b) then refused formula_too_long_line
-    else told_exit (formula_report b)))
-    (only file) (omega arith) (λ b. short_form_fits names b (nat_lt MAX_FORMULA (length b)))
+    else told_exit (formula_report p left b)))
+    (only file) (omega arith) (λ b. short_form_fits names p left b (nat_lt MAX_FORMULA (length b)))
+suited (Some (views.policy_formulas file)) =
+    let names : List (List ℕ) = file ∷ [] in
+    reads_on names file MAX_POLICY_FILE policy_too_long_line
+    (λ b. ending (told_exit (policy_report b))) (only file) (omega arith)
+    (λ b. policy_fits names b (policy_read b))
 suited (Some (views.source file version bound)) =
     let names : List (List ℕ) = file ∷ [] in
     reads_on names file MAX_SOURCE source_too_long_line

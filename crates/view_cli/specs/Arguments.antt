@@ -2,8 +2,9 @@
 use Rattle.std.specs.Prelude.{◌≤◌, option_map}
 use Rattle.pcc_words.specs.Commands.{word_view, IsVersionOf}
 use Rattle.pcc_words.specs.declared.limits.TheConstants.{MAX_STEPS}
-use Rattle.view_cli.specs.Invocations.{ViewInvocation, list, goals, packet, formula, source, help, version}
+use Rattle.view_cli.specs.Invocations.{ViewInvocation, list, goals, packet, formula, policy_formulas, source, help, version}
 use Rattle.view_cli.specs.declared.arguments.PacketArgs.{PacketArgs}
+use Rattle.view_cli.specs.declared.arguments.FormulaArgs.{FormulaArgs}
 use Rattle.view_cli.specs.declared.arguments.SourceArgs.{SourceArgs}
 use Rattle.view_cli.specs.declared.arguments.Command.{Command}
 use Rattle.view_cli.specs.declared.arguments.Command.TheVariants as command
@@ -12,6 +13,10 @@ use Rattle.view_cli.specs.declared.limits.TheConstants.{MAX_PACKET_NUMBER}
 -- `packet` with its values
 abbrev pub packet_from_args : PacketArgs → ViewInvocation
 packet_from_args args = packet (word_view args.policy) args.file.now args.packets.now args.number args.steps
+
+-- `formula` with its values
+abbrev pub formula_from_args : FormulaArgs → ViewInvocation
+formula_from_args args = formula args.file.now args.profile args.left
 
 -- `source` with its values
 abbrev pub source_from_args : SourceArgs → ViewInvocation
@@ -22,7 +27,8 @@ abbrev pub view_invocation_of : Command → ViewInvocation
 view_invocation_of (command.List args) = list args.file.now (option_map (λ s. s.now) args.source)
 view_invocation_of (command.Goals args) = goals (word_view args.policy) args.file.now
 view_invocation_of (command.Packet args) = packet_from_args args
-view_invocation_of (command.Formula file) = formula file.now
+view_invocation_of (command.Formula args) = formula_from_args args
+view_invocation_of (command.PolicyText file) = policy_formulas file.now
 view_invocation_of (command.Source args) = source_from_args args
 view_invocation_of command.Help = help
 view_invocation_of command.Version = version

@@ -1,9 +1,9 @@
 -- What a run of each command shows, whatever the files hold, by what it read; and what that is
 -- worth.
-use Rattle.std.specs.Prelude.{◌≡◌, ◌↔◌, ℕ, ◌<◌, ◌≤◌, true, List, [], ◌∷◌, ◌++◌, length, map, slice_get, is_some, Option, Some, None, Ok, Err}
+use Rattle.std.specs.Prelude.{◌≡◌, ◌↔◌, ℕ, ◌<◌, ◌≤◌, Bool, List, [], ◌∷◌, ◌++◌, length, map, slice_get, is_some, Option, Some, None, Ok, Err}
 use Rattle.file_port.specs.Events.{Given, whole, missing, too_long, failed, no_memory, Event, was_read}
 use Rattle.file_port.specs.Sink.{SinkState}
-use Rattle.word_ops.specs.declared.Profile.TheVariants.{Two}
+use Rattle.word_ops.specs.declared.Profile.{Profile}
 use Rattle.alpha_words.specs.declared.insn.Insn.{Insn}
 use Rattle.alpha_cfg.specs.CodeDecoding.{decoded_code}
 use Rattle.formula_tree.specs.Formulas.{Form}
@@ -20,8 +20,10 @@ use Rattle.pcc_asm.specs.declared.fault.AsmFlaw.{AsmFlaw}
 use Rattle.pcc_asm.specs.Assembling.{assembled_code}
 use Rattle.pcc_asm.specs.Names.{asm_flaw_line, asm_flaw_name}
 use Rattle.policy_set.specs.Names.{policy_of}
-use Rattle.policy_set.specs.PolicyText.{SpellsPolicy}
+use Rattle.policy_set.specs.PolicyText.{SpellsPolicy, policy_read}
 use Rattle.policy_set.specs.Views.{PolicyView}
+use Rattle.policy_set.specs.declared.fault.PolicyFlaw.{PolicyFlaw}
+use Rattle.policy_set.specs.declared.kind.PolicyKind.{PolicyKind}
 use Rattle.packet_store.specs.PacketDecoding.{decoded_packets}
 use Rattle.packet_store.specs.Results.{packet_result}
 use Rattle.proof_container.specs.Contents.{Contents}
@@ -39,13 +41,14 @@ use Rattle.view_goal_text.specs.Lines.{verdict_line}
 use Rattle.view_goal_text.specs.Listing.{goals_text, goals_of_bytes}
 use Rattle.view_trace.specs.Traces.{packet_text}
 use Rattle.view_faults.specs.FormReports.{without_lf, formula_line, form_fault_text}
-use Rattle.view_faults.specs.Laws.{IsTokenFlaw}
-use Rattle.view_faults.specs.Marking.{Span, marked_line}
-use Rattle.view_faults.specs.SourceLines.{numbered_line}
-use Rattle.view_faults.specs.SourceReports.{source_line, source_fault_text}
-use Rattle.view_faults.specs.Spans.{flaw_span, asm_flaw_span}
+use Rattle.view_source_faults.specs.Laws.{IsTokenFlaw}
+use Rattle.view_faults.specs.Marking.{Span, marked_line, no_limits}
+use Rattle.view_faults.specs.PolicyReports.{policy_forms, policy_fault_text}
+use Rattle.view_faults.specs.Lines.{numbered_line}
+use Rattle.view_source_faults.specs.SourceReports.{source_line, source_fault_text}
+use Rattle.view_source_faults.specs.Spans.{flaw_span, asm_flaw_span, flaw_limits}
 use Rattle.pcc_words.specs.Invocations.{PolicyWord, named, from_file}
-use Rattle.pcc_lines.specs.Fixed.{source_too_long_line}
+use Rattle.pcc_lines.specs.Fixed.{policy_too_long_line, source_too_long_line}
 use Rattle.pcc_lines.specs.Results.{result_line, result_lines}
 use Rattle.pcc_lines.specs.Sources.{source_fault_line}
 use Rattle.pcc_stages.specs.Exits.{Exit}
@@ -54,6 +57,7 @@ use Rattle.pcc_stages.specs.Runs.{NoneFailed, Prints, done_exit}
 use Rattle.pcc_stages.specs.Stage.{gives}
 use Rattle.pcc_stages.specs.Stages.Common.{refused}
 use Rattle.pcc_stages.specs.Stages.Containers.{code_in}
+use Rattle.pcc_stages.specs.Stages.Policies.{no_policy_spelled}
 use Rattle.pcc_stages.specs.declared.files.TheConstants.{MAX_FILE, MAX_POLICY_FILE}
 use Rattle.view_cli.specs.Invocations.{ViewInvocation}
 use Rattle.view_cli.specs.Invocations as views
@@ -136,11 +140,12 @@ pub record EndsWithLine (policy : PolicyView) (code : List Insn) (steps k : ℕ)
       result_lines policy.kind results 0 packets
       ≡ before ++ (result_line policy.kind k (results packet) ++ after)
 
--- `packet`: FILE and PACKETS were read behind the policy, and the text is the run of FILE's code on
--- packet k, step by step.
+-- `packet`: FILE and PACKETS were read behind the policy, which is built in, and the text is the run
+-- of FILE's code on packet k, step by step.
 pub record TracesPacket (word : PolicyWord) (file packets : List ℕ) (k steps : ℕ)
     (events : List Event) (text : List ℕ) : Type 0 where
   pub policy : PolicyView
+  pub kind : PolicyKind
   pub told : List Event
   pub bytes : List ℕ
   pub code : List Insn
@@ -151,6 +156,7 @@ pub record TracesPacket (word : PolicyWord) (file packets : List ℕ) (k steps :
       ≡ told ++ was_read file MAX_FILE (whole bytes)
       ∷ was_read packets MAX_FILE (whole packet_bytes) ∷ []
   pub tells : IsToldBy word told policy
+  pub built_in : policy.kind ≡ Some kind
   pub code_is : code_in policy bytes ≡ gives code
   pub packets_are : decoded_packets packet_bytes ≡ Ok all
   pub there : slice_get all k ≡ Some packet
@@ -159,21 +165,33 @@ pub record TracesPacket (word : PolicyWord) (file packets : List ℕ) (k steps :
 
 -- ---- `formula` and `source`
 
--- What is said of a text that is to spell a formula: the formula, with status 0, exactly where it
--- spells one and isn't too long; else the first token with which no formula goes on, with a mark.
-pub record SaysOfForm (text : List ℕ) (exit : Exit) : Type 0 where
+-- What is said of a text that is to spell a formula over the operators of the profile, which may name
+-- the steps that are left where the flag says so: the formula, with status 0, exactly where it spells
+-- one and isn't too long; else the first token with which no formula goes on, with a mark.
+pub record SaysOfForm (p : Profile) (left : Bool) (text : List ℕ) (exit : Exit) : Type 0 where
   pub done : (exit.status ≡ 0)
-      ↔ ((length text ≤ MAX_FORMULA) × ((F : Form) × Spells Two true (without_lf text) F))
-  pub right : (F : Form) → length text ≤ MAX_FORMULA → Spells Two true (without_lf text) F
+      ↔ ((length text ≤ MAX_FORMULA) × ((F : Form) × Spells p left (without_lf text) F))
+  pub right : (F : Form) → length text ≤ MAX_FORMULA → Spells p left (without_lf text) F
       → exit ≡ done_exit (formula_line F)
   pub wrong : (at : ℕ) (flaw : TextFlaw) → length text ≤ MAX_FORMULA
-      → parsed_form Two true (without_lf text) ≡ Err (at, flaw)
-      → IsFaultPosition Two true (without_lf text) at
+      → parsed_form p left (without_lf text) ≡ Err (at, flaw)
+      → IsFaultPosition p left (without_lf text) at
       × (exit ≡ refused (form_fault_text (without_lf text) (at, flaw)))
   pub too_long : MAX_FORMULA < length text → exit ≡ refused formula_too_long_line
 
+-- What is said of a text that is to spell a policy: its two formulas, with status 0, exactly where it
+-- spells one; else the line that `pcc check` prints of its first fault, and what shows the place.
+pub record SaysOfPolicy (text : List ℕ) (exit : Exit) : Type 0 where
+  pub done : (exit.status ≡ 0) ↔ ((policy : PolicyView) × SpellsPolicy text policy)
+  pub right : (policy : PolicyView) → SpellsPolicy text policy
+      → exit ≡ done_exit (policy_forms policy)
+  pub wrong : (flaw : PolicyFlaw) → policy_read text ≡ Err flaw
+      → exit ≡ refused (policy_fault_text text flaw)
+  pub as_checked : (flaw : PolicyFlaw) → policy_read text ≡ Err flaw
+      → (shown : List ℕ) × (exit.text ≡ (no_policy_spelled flaw).text ++ shown)
+
 -- what is said of a fault in a line: its number, the fault's name, the line, and a mark under the
--- place
+-- place, with the numbers that are allowed in the place of one that is out of its range
 pub record IsToldWithMark (version : ℕ) (bound : Option ℕ) (text : List ℕ) (n : ℕ) (flaw : LineFlaw)
     (exit : Exit) : Type 0 where
   pub line : List ℕ
@@ -181,7 +199,9 @@ pub record IsToldWithMark (version : ℕ) (bound : Option ℕ) (text : List ℕ)
   pub line_is : numbered_line text n ≡ Some line
   pub span_is : flaw_span (profile_of version) (is_some bound) flaw line ≡ Some span
   pub said : exit
-      ≡ refused (source_fault_line n (line_flaw_name flaw) ++ marked_line line (Some span))
+      ≡ refused
+      (source_fault_line n (line_flaw_name flaw)
+      ++ marked_line line (Some span) (flaw_limits (profile_of version) flaw line))
 
 -- What is said of a text that is to spell a source: how much it holds, with status 0, exactly where
 -- it spells one that is assembled; else its first fault. Where that lies in one token, a mark stands
@@ -198,30 +218,36 @@ pub record SaysOfSource (version : ℕ) (bound : Option ℕ) (text : List ℕ) (
     pub wrong : (n : ℕ) (flaw : LineFlaw)
         → IsSourceFault (profile_of version) (is_some bound) text n flaw
         → let span = flaw_span (profile_of version) (is_some bound) flaw in
-        exit ≡ refused (source_fault_text text n (line_flaw_name flaw) span)
+        let limits = flaw_limits (profile_of version) flaw in
+        exit ≡ refused (source_fault_text text n (line_flaw_name flaw) span limits)
     pub unassembled : (s : Source) (flaw : AsmFlaw)
         → SpellsSource (profile_of version) (is_some bound) text s
         → assembled_code (profile_of version) s ≡ Err flaw
         → let line = asm_flaw_line flaw in
-        exit ≡ refused (source_fault_text text line (asm_flaw_name flaw) (asm_flaw_span flaw))
+        exit ≡ refused (source_fault_text text line (asm_flaw_name flaw) (asm_flaw_span flaw) no_limits)
     pub marked : (n : ℕ) (flaw : LineFlaw) → IsTokenFlaw flaw
         → IsSourceFault (profile_of version) (is_some bound) text n flaw
         → IsToldWithMark version bound text n flaw exit
 
--- what is printed by what the only read, of FILE, gave, where this is said of a text
-abbrev pub SaysOfRead : List ℕ → (List ℕ → Exit → Type 0) → Given → Exit → Type 0
-SaysOfRead file Says (whole text) exit = Says text exit
-SaysOfRead file Says missing exit = exit ≡ missing_exit view_texts file
-SaysOfRead file Says too_long exit = exit ≡ refused source_too_long_line
-SaysOfRead file Says failed exit = exit ≡ read_fault_exit view_texts file
-SaysOfRead file Says no_memory exit = exit ≡ no_memory_exit
+-- what is printed by what the only read, of FILE, gave, where this is said of a text, and this line of
+-- one that is too long
+abbrev pub SaysOfRead : List ℕ → List ℕ → (List ℕ → Exit → Type 0) → Given → Exit → Type 0
+SaysOfRead file long Says (whole text) exit = Says text exit
+SaysOfRead file long Says missing exit = exit ≡ missing_exit view_texts file
+SaysOfRead file long Says too_long exit = exit ≡ refused long
+SaysOfRead file long Says failed exit = exit ≡ read_fault_exit view_texts file
+SaysOfRead file long Says no_memory exit = exit ≡ no_memory_exit
 
--- one read, of FILE, and what is said of it
-pub record SaysOf (file : List ℕ) (Says : List ℕ → Exit → Type 0) (events : List Event)
-    (exit : Exit) : Type 0 where
+-- one read, of FILE, of at most so many bytes, and what is said of it
+pub record SaysOf (file : List ℕ) (max : ℕ) (long : List ℕ) (Says : List ℕ → Exit → Type 0)
+    (events : List Event) (exit : Exit) : Type 0 where
   pub given : Given
-  pub one_read : events ≡ was_read file MAX_SOURCE given ∷ []
-  pub said : SaysOfRead file Says given exit
+  pub one_read : events ≡ was_read file max given ∷ []
+  pub said : SaysOfRead file long Says given exit
+
+-- the same of the text of a formula or of a source
+abbrev pub SaysOfText : List ℕ → (List ℕ → Exit → Type 0) → List Event → Exit → Type 0
+SaysOfText file Says events exit = SaysOf file MAX_SOURCE source_too_long_line Says events exit
 
 -- ---- by what the arguments are
 
@@ -233,8 +259,10 @@ IsShown (views.goals policy file) events exit =
     exit.status ≡ 0 → ListsGoals policy file events exit.text
 IsShown (views.packet policy file packets k steps) events exit =
     exit.status ≡ 0 → TracesPacket policy file packets k steps events exit.text
-IsShown (views.formula file) events exit = SaysOf file SaysOfForm events exit
-IsShown (views.source file v bound) events exit = SaysOf file (SaysOfSource v bound) events exit
+IsShown (views.formula file p left) events exit = SaysOfText file (SaysOfForm p left) events exit
+IsShown (views.policy_formulas file) events exit =
+    SaysOf file MAX_POLICY_FILE policy_too_long_line SaysOfPolicy events exit
+IsShown (views.source file v bound) events exit = SaysOfText file (SaysOfSource v bound) events exit
 IsShown views.help events exit = (events ≡ []) × (exit ≡ done_exit help_text)
 IsShown views.version events exit = (events ≡ []) × (exit ≡ done_exit version_text)
 

@@ -1,10 +1,13 @@
 -- What arguments are a command of pcc_view, and with which values, by the definitions of `clap` for simple commands.
-use Rattle.std.specs.Prelude.{ℕ, ◌&&◌, Bool, true, false, List, [], ◌∷◌, nat_le, Option, Some, None, codes, option_and_then, if◌then◌else◌}
+use Rattle.std.specs.Prelude.{ℕ, ◌&&◌, ◌||◌, Bool, true, false, List, [], ◌∷◌, nat_le, Option, Some, None, codes, option_and_then, if◌then◌else◌}
 use Rattle.std.specs.Str.{bytes_eq}
 use Rattle.clap.specs.Words.{App, Kinds, Row, Rule, Text, fault_of, first_of, new_app, new_rule, subcommand_of, with_rule, with_subcommand}
 use Rattle.clap.specs.Simple.{on_top}
+use Rattle.clap.specs.declared.builder.action.ArgAction.TheVariants.{SetTrue}
 use Rattle.clap.specs.declared.builder.value_parser.ValueParser.TheVariants as parser
-use Rattle.pcc_words.specs.Invocations.{positional, steps_rule, version_rule, bound_rule, file_app, packets_app, PolicyWord, policy_word, value_of, optional_number, number_at, is_bound, version_at, is_step_count}
+use Rattle.word_ops.specs.declared.Profile.{Profile}
+use Rattle.word_ops.specs.declared.Profile.TheVariants.{One, Two}
+use Rattle.pcc_words.specs.Invocations.{positional, steps_rule, version_rule, bound_rule, file_app, packets_app, PolicyWord, policy_word, value_of, is_given, optional_number, number_at, is_bound, version_at, is_step_count}
 use Rattle.view_cli.specs.declared.limits.TheConstants.{MAX_PACKET_NUMBER}
 
 -- ---- the command line
@@ -33,6 +36,18 @@ traced_app name = with_rule (numbered_app name) steps_rule
 abbrev pub versioned_file_app : Text → App
 versioned_file_app name = with_rule (one_file_app name) version_rule
 
+-- `--NAME`, without a value
+abbrev pub flag_rule : Text → Rule
+flag_rule name = record (new_rule name) { long = Some name; action = Some SetTrue }
+
+-- `NAME FILE [--v2] [--bound]`
+abbrev pub left_file_app : Text → App
+left_file_app name = with_rule (versioned_file_app name) (flag_rule (codes "bound"))
+
+-- `NAME FILE [--v2] [--bound] [--policy]`
+abbrev pub formula_app : Text → App
+formula_app name = with_rule (left_file_app name) (flag_rule (codes "policy"))
+
 -- `NAME FILE [--v2] [--bound N]`
 abbrev pub source_app : Text → App
 source_app name = with_rule (versioned_file_app name) bound_rule
@@ -55,7 +70,7 @@ traces_app = with_subcommand goals_app (traced_app (codes "packet")).top
 
 -- with `formula`
 abbrev pub formulas_app : App
-formulas_app = with_subcommand traces_app (one_file_app (codes "formula")).top
+formulas_app = with_subcommand traces_app (formula_app (codes "formula")).top
 
 -- the program
 abbrev pub view_app : App
@@ -71,11 +86,13 @@ pub data ViewInvocation : Type 0 where
   goals : PolicyWord → Text → ViewInvocation
   -- `packet POLICY FILE PACKETS K`, and the steps of its run
   packet : PolicyWord → Text → Text → ℕ → ℕ → ViewInvocation
-  -- `formula FILE`
-  formula : Text → ViewInvocation
+  -- `formula FILE [--v2] [--bound]`, the profile of its operators, and whether it may name the steps that are left
+  formula : Text → Profile → Bool → ViewInvocation
+  -- `formula FILE --policy`
+  policy_formulas : Text → ViewInvocation
   -- `source FILE [--v2] [--bound N]`, the version of the container that it is for, and its bound if it has one
   source : Text → ℕ → Option ℕ → ViewInvocation
-  -- `--help`
+  -- help, as `--help` asks for it
   help : ViewInvocation
   -- `--version`
   version : ViewInvocation
@@ -105,6 +122,17 @@ packet_invocation rows =
     then Some (packet (policy_word_in rows) (value_of (codes "FILE") rows) (value_of (codes "PACKETS") rows) number steps)
     else None
 
+-- `formula` of a file, by which of its three flags are given: that of a policy goes with no other
+abbrev pub formula_invocation : Text → Bool → Bool → Bool → Option ViewInvocation
+formula_invocation file wide left true = if wide || left then None else Some (policy_formulas file)
+formula_invocation file wide left false = Some (formula file (if wide || left then Two else One) left)
+
+-- the same of these rows
+abbrev pub formula_at : List Row → Option ViewInvocation
+formula_at rows =
+    formula_invocation (value_of (codes "FILE") rows) (is_given (codes "v2") rows)
+    (is_given (codes "bound") rows) (is_given (codes "policy") rows)
+
 -- `source` of these rows. The parse takes no other bounds, so the test refuses none of them.
 abbrev pub source_invocation : List Row → Option ViewInvocation
 source_invocation rows =
@@ -117,7 +145,7 @@ view_invocation_at name rows =
     if bytes_eq name (codes "list") then Some (list_invocation rows) else
     if bytes_eq name (codes "goals") then Some (goals_invocation rows) else
     if bytes_eq name (codes "packet") then packet_invocation rows else
-    if bytes_eq name (codes "formula") then Some (formula (value_of (codes "FILE") rows)) else
+    if bytes_eq name (codes "formula") then formula_at rows else
     if bytes_eq name (codes "source") then source_invocation rows else
     None
 
@@ -140,9 +168,33 @@ is_alone word [] = false
 is_alone word (first ∷ []) = bytes_eq first word
 is_alone word (first ∷ second ∷ rest) = false
 
--- The command that the arguments are: `--help` or `--version` alone, or what `clap` finds.
+-- `--help` or `-h`
+abbrev pub is_help_flag : Text → Bool
+is_help_flag word = bytes_eq word (codes "--help") || bytes_eq word (codes "-h")
+
+-- the name of a command
+abbrev pub is_command_name : Text → Bool
+is_command_name word =
+    bytes_eq word (codes "list") || bytes_eq word (codes "goals") || bytes_eq word (codes "packet")
+    || bytes_eq word (codes "formula") || bytes_eq word (codes "source")
+
+-- a command's name before a flag of help, or behind `help`
+abbrev pub is_help_pair : Text → Text → Bool
+is_help_pair first second =
+    (is_command_name first && is_help_flag second)
+    || (bytes_eq first (codes "help") && is_command_name second)
+
+-- The arguments ask for help: they are `--help`, `-h` or `help` alone, or one of these and a command's
+-- name.
+abbrev pub asks_help : List Text → Bool
+asks_help [] = false
+asks_help (word ∷ []) = is_help_flag word || bytes_eq word (codes "help")
+asks_help (first ∷ second ∷ []) = is_help_pair first second
+asks_help (first ∷ second ∷ third ∷ rest) = false
+
+-- The command that the arguments are: they ask for help, are `--version` alone, or are what `clap` finds.
 abbrev pub view_command_of : List Text → Option ViewInvocation
 view_command_of args =
-    if is_alone (codes "--help") args then Some help else
+    if asks_help args then Some help else
     if is_alone (codes "--version") args then Some version else
     parsed_command_of args

@@ -1,4 +1,5 @@
 pub mod Texts
+pub mod Inside
 pub mod Commands
 pub mod Tasks
 pub mod Reports

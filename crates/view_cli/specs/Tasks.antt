@@ -8,12 +8,12 @@ use Rattle.pcc_stages.specs.Requests.{Request, Standing, no_command, unknown_pol
 use Rattle.pcc_stages.specs.Runs.{Task, request_of_task, done_exit}
 use Rattle.pcc_stages.specs.Stage.{Stage, gives, ◌>>=◌}
 use Rattle.pcc_stages.specs.Stages.Common.{ending}
-use Rattle.view_cli.specs.Invocations.{ViewInvocation, list, goals, packet, formula, source, help, version, view_command_of}
+use Rattle.view_cli.specs.Invocations.{ViewInvocation, list, goals, packet, formula, policy_formulas, source, help, version, view_command_of}
 use Rattle.view_cli.specs.Texts.{help_text, version_text, view_texts}
 use Rattle.view_cli.specs.Commands.List.{list_command}
 use Rattle.view_cli.specs.Commands.Goals.{goals_command}
 use Rattle.view_cli.specs.Commands.Packet.{packet_command}
-use Rattle.view_cli.specs.Commands.Faults.{formula_command, source_command}
+use Rattle.view_cli.specs.Commands.Faults.{formula_command, policy_command, source_command}
 
 -- ---- each command
 
@@ -22,7 +22,8 @@ abbrev pub exit_of_command : ViewInvocation → Stage Exit
 exit_of_command (list file from) = list_command file from
 exit_of_command (goals policy file) = goals_command policy file
 exit_of_command (packet policy file packets k steps) = packet_command policy file packets k steps
-exit_of_command (formula file) = formula_command file
+exit_of_command (formula file profile left) = formula_command file profile left
+exit_of_command (policy_formulas file) = policy_command file
 exit_of_command (source file v bound) = source_command file v bound
 exit_of_command help = gives (done_exit help_text)
 exit_of_command version = gives (done_exit version_text)
@@ -38,7 +39,8 @@ view_files (list file None) = file ∷ []
 view_files (list file (Some from)) = file ∷ from ∷ []
 view_files (goals policy file) = policy_files policy ++ file ∷ []
 view_files (packet policy file packets k steps) = policy_files policy ++ file ∷ packets ∷ []
-view_files (formula file) = file ∷ []
+view_files (formula file profile left) = file ∷ []
+view_files (policy_formulas file) = file ∷ []
 view_files (source file v bound) = file ∷ []
 view_files help = []
 view_files version = []

@@ -1,6 +1,7 @@
 //! The commands of pcc_view, with their arguments.
 
 use pcc_words::PolicyWord;
+use word_ops::Profile;
 
 /// The arguments of `list`: `FILE [SOURCE]`.
 #[derive(Clone, Copy, Debug, PartialEq, Eq)]
@@ -35,6 +36,18 @@ pub struct PacketArgs<'a> {
     pub steps: u64,
 }
 
+/// The arguments of `formula`: `FILE [--v2] [--bound]`.
+#[derive(Clone, Copy, Debug, PartialEq, Eq)]
+pub struct FormulaArgs<'a> {
+    /// The name of the formula's file.
+    pub file: &'a str,
+    /// The profile of the operators that the formula may have: the second if `--v2` or `--bound` is
+    /// given, else the first.
+    pub profile: Profile,
+    /// Whether the formula may name the remaining steps, as `--bound` says.
+    pub left: bool,
+}
+
 /// The arguments of `source`: `FILE [--v2] [--bound N]`.
 #[derive(Clone, Copy, Debug, PartialEq, Eq)]
 pub struct SourceArgs<'a> {
@@ -56,8 +69,10 @@ pub enum Command<'a> {
     Goals(GoalsArgs<'a>),
     /// Shows the run of a packet step by step.
     Packet(PacketArgs<'a>),
-    /// Shows the formula in the file of this name, or what is wrong with it.
-    Formula(&'a str),
+    /// Shows the formula in a file, or what is wrong with it.
+    Formula(FormulaArgs<'a>),
+    /// Shows the policy in the file with this name, or what is wrong with it.
+    PolicyText(&'a str),
     /// Shows what is in a source, or what is wrong with it.
     Source(SourceArgs<'a>),
     /// Shows how to call the program.

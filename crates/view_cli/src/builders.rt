@@ -4,11 +4,12 @@ ghost use Rattle.clap.specs.Words.{app_of, rule_of};
 ghost use Rattle.clap.specs.declared.Command.TheViews.{out-Command as fields_of};
 ghost use Rattle.view_cli.specs.Invocations.{one_file_app, list_app, number_rule, numbered_app};
 ghost use Rattle.view_cli.specs.Invocations.{traced_app, versioned_file_app, source_app};
+ghost use Rattle.view_cli.specs.Invocations.{flag_rule, left_file_app, formula_app};
 ghost use Rattle.view_cli.specs.Invocations.{lists_app, goals_app, traces_app, formulas_app};
 ghost use Rattle.view_cli.specs.Invocations.{view_app};
 
 use crate::limits::MAX_PACKET_NUMBER;
-use clap::{Arg, Command, value_parser};
+use clap::{Arg, ArgAction, Command, value_parser};
 use pcc_words::{bound, file_command, packets_command, positional, steps, version_flag};
 use std::alloc::{AllocError, Global};
 
@@ -60,6 +61,30 @@ fn versioned_file_command<'a>(alloc: Global, name: &'a str) -> Result<Command<'a
     one_file_command(alloc, name)?.arg(version_flag(alloc))
 }
 
+/// `--NAME`
+fn flag<'a>(alloc: Global, name: &'a str) -> Arg<'a>
+    ensures rule { rule_of result ≡ flag_rule name.entry.now }
+    ensures local { result.global ≡ false }
+{
+    Arg::new(alloc, name).long(name).action(ArgAction::SetTrue)
+}
+
+/// `NAME FILE [--v2] [--bound]`
+fn left_file_command<'a>(alloc: Global, name: &'a str) -> Result<Command<'a>, AllocError>
+    ensures app { IfOk result (λ c. app_of c ≡ left_file_app name.entry.now) }
+    ensures local { IfOk result (λ c. (fields_of c).has_globals ≡ false) }
+{
+    versioned_file_command(alloc, name)?.arg(flag(alloc, "bound"))
+}
+
+/// `NAME FILE [--v2] [--bound] [--policy]`
+fn formula_command<'a>(alloc: Global, name: &'a str) -> Result<Command<'a>, AllocError>
+    ensures app { IfOk result (λ c. app_of c ≡ formula_app name.entry.now) }
+    ensures local { IfOk result (λ c. (fields_of c).has_globals ≡ false) }
+{
+    left_file_command(alloc, name)?.arg(flag(alloc, "policy"))
+}
+
 /// `NAME FILE [--v2] [--bound N]`
 fn source_command<'a>(alloc: Global, name: &'a str) -> Result<Command<'a>, AllocError>
     ensures app { IfOk result (λ c. app_of c ≡ source_app name.entry.now) }
@@ -98,7 +123,7 @@ fn traces_command<'a>(alloc: Global) -> Result<Command<'a>, AllocError>
 fn formulas_command<'a>(alloc: Global) -> Result<Command<'a>, AllocError>
     ensures app { IfOk result (λ c. app_of c ≡ formulas_app) }
 {
-    let added = one_file_command(alloc, "formula")?;
+    let added = formula_command(alloc, "formula")?;
     traces_command(alloc)?.subcommand(added)
 }
 

@@ -9,9 +9,9 @@
 //!
 //! The arguments are parsed by `clap`. `read_arguments` returns the command that they are by
 //! `view_command_of`, of `specs/Invocations`. There clap's own definitions at the literal command
-//! line give the arguments of a command; `--help` and `--version` are commands if they are the only
-//! argument. A `ViewInvocation` is a command with its values, without where they lie in memory;
-//! `view_invocation_of` and `IsInViewRange` are defined in `specs/Arguments`.
+//! line give the arguments of a command; words that ask for help (`asks_help`), and `--version` as the
+//! only argument, are commands too. A `ViewInvocation` is a command with its values, without where
+//! they lie in memory; `view_invocation_of` and `IsInViewRange` are defined in `specs/Arguments`.
 #![tactic(auto)]
 
 mod arguments;
@@ -25,7 +25,7 @@ mod trace_job;
 mod values;
 mod words;
 
-pub use arguments::{Command, GoalsArgs, ListArgs, PacketArgs, SourceArgs};
+pub use arguments::{Command, FormulaArgs, GoalsArgs, ListArgs, PacketArgs, SourceArgs};
 pub use limits::{MAX_FORMULA, MAX_PACKET_NUMBER};
 pub use top_call::{laws, pcc_view};
 pub use words::read_arguments;

@@ -2,7 +2,7 @@
 
 ghost use Rattle.file_port.specs.Sink.{Puts};
 ghost use Rattle.view_cli.specs.Texts.{view_usage_line, help_text, version_text};
-ghost use Rattle.view_cli.specs.Texts.{formula_too_long_line, absent_packet_line};
+ghost use Rattle.view_cli.specs.Texts.{formula_too_long_line, absent_packet_line, no_start_line};
 
 use arrayvec::ArrayVec;
 use file_port::{Put, Sink};
@@ -30,7 +30,9 @@ pub fn print_help<S: Sink>(out: &mut S) -> Put
         with what is known, and which are easy\n\
         pcc_view packet POLICY FILE PACKETS K [--steps N]\n\
         \x20                                    the run on packet K, step by step\n\
-        pcc_view formula FILE                where a formula is wrong\n\
+        pcc_view formula FILE [--v2] [--bound] [--policy]\n\
+        \x20                                    \
+        where a formula is wrong, or the two of a policy's file\n\
         pcc_view source FILE [--v2] [--bound N]\n\
         \x20                                    where a source is wrong, as pcc asm reads it\n\
         pcc_view --help, pcc_view --version\n\
@@ -69,4 +71,12 @@ pub fn print_no_packet<S: Sink>(number: u64, out: &mut S) -> Put
     push_decimal(&mut line, number);
     push_text(&mut line, "\n");
     out.put(line.as_slice())
+}
+
+/// Prints that a policy from a file has no start.
+#[tactic(auto, unfolding(crate::specs::Texts::no_start_line))]
+pub fn print_no_start<S: Sink>(out: &mut S) -> Put
+    ensures { Puts no_start_line (S.state out.old) (S.state out.new) result }
+{
+    out.put(b"no start: the policy is from a file\n")
 }

@@ -18,7 +18,7 @@ ghost use Rattle.view_cli.specs.Headline.{ShowsIfCommand};
 ghost use Rattle.view_cli.specs.Reports.{exit_of_report};
 
 use crate::commands::{
-    formula_command, goals_command, list_command, packet_command, source_command,
+    formula_command, goals_command, list_command, packet_command, policy_command, source_command,
 };
 use crate::report::Report;
 use crate::{Command, read_arguments};
@@ -41,7 +41,8 @@ fn shown<'a, F: Files>(
         Command::List(args) => list_command(alloc, args, files),
         Command::Goals(args) => goals_command(alloc, args, files),
         Command::Packet(args) => packet_command(alloc, args, files),
-        Command::Formula(file) => formula_command(alloc, file, files),
+        Command::Formula(args) => formula_command(alloc, args, files),
+        Command::PolicyText(file) => policy_command(alloc, file, files),
         Command::Source(args) => source_command(alloc, args, files),
         Command::Help => Ok(Report::Help),
         Command::Version => Ok(Report::Version),
@@ -113,7 +114,7 @@ pub fn pcc_view<F: Files, S: Sink>(
     policy_set::laws();
     formula_text::laws();
     asm_text::laws();
-    view_faults::laws();
+    view_source_faults::laws();
     view_goal_text::laws();
     let decision = decide(alloc, words.as_slice(), files);
     print(decision, out)

@@ -1,21 +1,23 @@
 //! The arguments of a command, from the matches of a parse.
 ghost use Rattle.std.specs.Prelude.{◌≡◌, IfSome, Some, None, codes, if◌then◌else◌, option_and_then, option_map};
 ghost use Rattle.clap.specs.Words.{first_of, found_of, rows_of, subcommand_rows_of};
-ghost use Rattle.pcc_words.specs.Invocations.{policy_word, value_of, number_at};
+ghost use Rattle.pcc_words.specs.Invocations.{policy_word, value_of, is_given, number_at};
 ghost use Rattle.pcc_words.specs.Commands.{word_view, IsVersionOf};
 ghost use Rattle.view_cli.specs.Invocations.{are_trace_numbers};
+ghost use Rattle.view_cli.specs.Invocations.{formula_invocation, formula_at};
 ghost use Rattle.view_cli.specs.Invocations.{source_invocation, view_invocation_at};
 ghost use Rattle.view_cli.specs.Invocations.{view_invocation_of_subcommand};
 ghost use Rattle.view_cli.specs.Arguments.{source_from_args, view_invocation_of};
 ghost use Rattle.view_cli.specs.Arguments.{IsInViewRange};
 
-use crate::arguments::{Command, GoalsArgs, ListArgs, PacketArgs, SourceArgs};
+use crate::arguments::{Command, FormulaArgs, GoalsArgs, ListArgs, PacketArgs, SourceArgs};
 use crate::limits::MAX_PACKET_NUMBER;
 use clap::ArgMatches;
 use pcc_words::{
     MAX_STEPS, bound_in_range, number_given, optional_number, policy_told, text_given,
     version_given,
 };
+use word_ops::Profile;
 
 /// The arguments of `list`.
 fn list_args_given<'a>(matches: &ArgMatches<'a>) -> ListArgs<'a>
@@ -73,6 +75,51 @@ fn with_numbers_in_range<'a>(args: PacketArgs<'a>) -> Option<PacketArgs<'a>>
     }
 }
 
+/// Whether an argument without a value is there.
+fn flag_given(matches: &ArgMatches<'_>, id: &str) -> bool
+    ensures { result ≡ is_given id.now (rows_of (found_of matches.now)) }
+{
+    text_given(matches, id) == "true"
+}
+
+/// Returns `formula` of a file, by which of its flags are given, or None if they don't go together.
+fn formula_told<'a>(file: &'a str, wide: bool, left: bool, policy: bool) -> Option<Command<'a>>
+    ensures exact { option_map view_invocation_of result
+        ≡ formula_invocation file.entry.now wide left policy }
+    ensures in_range { IfSome result IsInViewRange }
+{
+    if policy {
+        if wide || left {
+            return None;
+        }
+        return Some(Command::PolicyText(file));
+    }
+    let profile = if wide || left {
+        Profile::Two
+    } else {
+        Profile::One
+    };
+    Some(Command::Formula(FormulaArgs {
+        file,
+        profile,
+        left,
+    }))
+}
+
+/// Returns `formula` with its arguments, or None if its flags don't go together.
+fn formula_given<'a>(matches: &ArgMatches<'a>) -> Option<Command<'a>>
+    ensures exact { option_map view_invocation_of result
+        ≡ formula_at (rows_of (found_of matches.now)) }
+    ensures in_range { IfSome result IsInViewRange }
+{
+    formula_told(
+        text_given(matches, "FILE"),
+        flag_given(matches, "v2"),
+        flag_given(matches, "bound"),
+        flag_given(matches, "policy"),
+    )
+}
+
 /// Returns the arguments of `source` if the step bound is in its range; clap accepts no other, as
 /// with the numbers of `packet`.
 fn source_args_given<'a>(matches: &ArgMatches<'a>) -> Option<SourceArgs<'a>>
@@ -98,7 +145,7 @@ fn command_given<'a>(name: &str, matches: &ArgMatches<'a>) -> Option<Command<'a>
         "list" => Some(Command::List(list_args_given(matches))),
         "goals" => Some(Command::Goals(goals_args_given(matches))),
         "packet" => Some(Command::Packet(with_numbers_in_range(packet_args_given(matches))?)),
-        "formula" => Some(Command::Formula(text_given(matches, "FILE"))),
+        "formula" => formula_given(matches),
         "source" => Some(Command::Source(source_args_given(matches)?)),
         _ => None,
     }

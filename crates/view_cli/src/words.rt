@@ -1,7 +1,9 @@
 //! The words of a command line of pcc_view, parsed by clap.
 
 ghost use Rattle.std.specs.Prelude.{◌≡◌, IfOk, IfSome, map, option_map, string_bytes};
-ghost use Rattle.view_cli.specs.Invocations.{is_alone, parsed_command_of, view_command_of};
+ghost use Rattle.view_cli.specs.Invocations.{is_help_flag, is_command_name, is_help_pair};
+ghost use Rattle.view_cli.specs.Invocations.{asks_help, is_alone};
+ghost use Rattle.view_cli.specs.Invocations.{parsed_command_of, view_command_of};
 ghost use Rattle.view_cli.specs.Arguments.{view_invocation_of, IsInViewRange};
 
 use crate::arguments::Command;
@@ -15,6 +17,41 @@ fn is_alone(words: &[String], word: &str) -> bool
     ensures { result ≡ is_alone word.now (map string_bytes words.now) }
 {
     words.len() == 1 && words[0].as_str() == word
+}
+
+/// Whether the word is a flag that asks for help.
+fn is_help_flag(word: &str) -> bool
+    ensures { result ≡ is_help_flag word.now }
+{
+    word == "--help" || word == "-h"
+}
+
+/// Whether the word is the name of a command.
+fn is_command_name(word: &str) -> bool
+    ensures { result ≡ is_command_name word.now }
+{
+    word == "list" || word == "goals" || word == "packet" || word == "formula" || word == "source"
+}
+
+/// Whether two words ask for help: a command's name before a flag of help, or after `help`.
+fn is_help_pair(first: &str, second: &str) -> bool
+    ensures { result ≡ is_help_pair first.now second.now }
+{
+    if is_command_name(first) && is_help_flag(second) {
+        return true;
+    }
+    first == "help" && is_command_name(second)
+}
+
+/// Whether the arguments ask for help.
+fn asks_help(words: &[String]) -> bool
+    ensures { result ≡ asks_help (map string_bytes words.now) }
+{
+    match words.len() {
+        1 => is_help_flag(words[0].as_str()) || words[0].as_str() == "help",
+        2 => is_help_pair(words[0].as_str(), words[1].as_str()),
+        _ => false,
+    }
 }
 
 /// The command that clap finds in the arguments, if it finds one.
@@ -47,7 +84,7 @@ pub fn read_arguments<'a>(
         ≡ view_command_of (map string_bytes words.entry.now)) }
     ensures in_range { IfOk result (λ found. IfSome found IsInViewRange) }
 {
-    if is_alone(words, "--help") {
+    if asks_help(words) {
         return Ok(Some(Command::Help));
     }
     if is_alone(words, "--version") {

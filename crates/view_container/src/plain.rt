@@ -17,7 +17,6 @@ ghost use Rattle.view_container.specs.Plain.{insn_or_flaw, word_line, index_inv,
 ghost use Rattle.view_container.specs.Plain.{index_lines, inv_entries, entry_lines};
 ghost use Rattle.view_container.specs.Plain.{comment_line, plain_text};
 
-use crate::push::push_number;
 use crate::stop::NoSource;
 use crate::summary::notes;
 use crate::words::{push_word, word_at};
@@ -26,7 +25,7 @@ use asm_print::push_insn;
 use proof_container::{Container, profile_of};
 use std::alloc::{AllocError, Global};
 use term_table::{Id, Table};
-use view_entries::push_entry;
+use view_entries::{push_entry, push_name};
 use word_ops::Profile;
 
 /// Appends a line as a comment.
@@ -130,8 +129,7 @@ fn push_inv_line(out: &mut Vec<u8>, table: &Table, id: Id) -> Result<(), AllocEr
 {
     out.extend_from_slice(b"# ")?;
     out.extend_from_slice(b"   .inv ")?;
-    out.push(b'e')?;
-    push_number(out, entry_number(table, id))?;
+    push_name(out, entry_number(table, id))?;
     out.push(b'\n')?;
     Ok(())
 }

@@ -11,11 +11,12 @@ ghost use Rattle.view_container.specs.Notes.{named_policy, version_note, bound_n
 ghost use Rattle.view_container.specs.Notes.{counts_note, measures_text, proof_note};
 ghost use Rattle.view_container.specs.Notes.{lemma_note, lemma_notes, notes_of};
 
-use crate::push::{push_hex, push_number};
+use crate::push::push_hex;
 use lf_signature::WordSignature;
 use proof_container::{Container, Head, signature_of};
 use std::alloc::{AllocError, Global};
 use term_table::{Id, Table};
+use view_entries::push_number;
 
 /// Appends what names the policy.
 fn push_policy(alloc: Global, out: &mut Vec<u8>, head: Head) -> Result<(), AllocError>

@@ -4,8 +4,9 @@ ghost use Rattle.std.specs.Prelude.{◌≡◌, ◌+◌, ◌*◌, ◌≤◌, ◌<
 ghost use Rattle.alpha_cfg.specs.CodeBytes.{code_word_at};
 ghost use Rattle.view_container.specs.Words.{indices_of, indexed_word, word_comment, word_hint};
 
-use crate::push::{push_hex, push_number};
+use crate::push::push_hex;
 use std::alloc::{AllocError, Global};
+use view_entries::push_number;
 
 /// Returns the instruction word at index `i` of the code's bytes.
 pub fn word_at(code: &[u8], i: usize) -> u32

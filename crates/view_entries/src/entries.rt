@@ -16,7 +16,10 @@ use std::alloc::AllocError;
 use term_table::{Id, Node, Table};
 use word_ops::{op_keyword, op_of_constant};
 
-fn push_number(out: &mut Vec<u8>, n: u64) -> Result<(), AllocError>
+/// Appends `n` in decimal.
+///
+/// Errors: out of memory; what is appended then is unspecified.
+pub fn push_number(out: &mut Vec<u8>, n: u64) -> Result<(), AllocError>
     ensures { OnOk result (out.new.items ≡ out.old.items ++ decimal n) }
 {
     let mut buffer = Buffer::new();
@@ -29,6 +32,15 @@ fn push_named(out: &mut Vec<u8>, letter: u8, n: u64) -> Result<(), AllocError>
 {
     out.push(letter)?;
     push_number(out, n)
+}
+
+/// Appends the name of the entry with a number: `e` and the number.
+///
+/// Errors: out of memory; what is appended then is unspecified.
+pub fn push_name(out: &mut Vec<u8>, number: u64) -> Result<(), AllocError>
+    ensures { OnOk result (out.new.items ≡ out.old.items ++ entry_name number) }
+{
+    push_named(out, b'e', number)
 }
 
 /// The word at a place among those of the constants from `SEL` on.
@@ -92,7 +104,7 @@ fn push_entry_name(out: &mut Vec<u8>, table: &Table, id: Id) -> Result<(), Alloc
     ensures { let number = entry_number table.now.trees (tree_at table.now id) in
         OnOk result (out.new.items ≡ out.old.items ++ entry_name number) }
 {
-    push_named(out, b'e', entry_number(table, id))
+    push_name(out, entry_number(table, id))
 }
 
 /// Appends a part: its name if that is one word, else the name of its entry.
@@ -293,7 +305,7 @@ pub fn push_entry(out: &mut Vec<u8>, table: &Table, id: Id) -> Result<(), AllocE
     requires { IsKnown table.now id }
     ensures exact { OnOk result (out.new.items ≡ out.old.items ++ entry_line table.now.trees id) }
 {
-    push_named(out, b'e', id.index() as u64)?;
+    push_name(out, id.index() as u64)?;
     out.extend_from_slice(b" = ")?;
     push_tree(out, table, id)
 }

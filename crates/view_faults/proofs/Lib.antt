@@ -1,8 +1,3 @@
 pub mod Backwards
 pub mod Places
-pub mod SameTokens
-pub mod Assembled
-pub mod FaultLines
-pub mod SourceSaid
-pub mod WrongFound
-pub mod Marked
+pub mod PolicySaid

@@ -1,7 +1,7 @@
 -- What is said of a text that is to spell a formula.
 use Rattle.std.specs.Prelude.{ℕ, suc, ◌-◌, Bool, true, false, ◌==◌, if◌then◌else◌, List, [], ◌∷◌, ◌++◌, codes, decimal, length, take, drop, reverse}
-use Rattle.std.specs.Prelude.{slice_index, Some, Result, Ok, Err}
-use Rattle.word_ops.specs.declared.Profile.TheVariants.{Two}
+use Rattle.std.specs.Prelude.{slice_index, Some, None, Result, Ok, Err}
+use Rattle.word_ops.specs.declared.Profile.{Profile}
 use Rattle.formula_tree.specs.Formulas.{Form}
 use Rattle.formula_text.specs.Names.{text_flaw_name}
 use Rattle.formula_text.specs.Parsing.{FaultAt, parsed_form}
@@ -51,14 +51,15 @@ formula_line F = codes "formula " ++ (form_text 0 F ++ codes "\n")
 abbrev pub form_fault_text : List ℕ → FaultAt → List ℕ
 form_fault_text text fault =
     form_fault_line fault.0 (text_flaw_name fault.1)
-    ++ marked_line (line_around text fault.0) (Some (column_of text fault.0, 0))
+    ++ marked_line (line_around text fault.0) (Some (column_of text fault.0, 0)) None
 
 -- what is said of a text, by what it is parsed as
 abbrev pub report_of_form : List ℕ → Result Form FaultAt → Bool × List ℕ
 report_of_form text (Ok F) = (true, formula_line F)
 report_of_form text (Err fault) = (false, form_fault_text text fault)
 
--- Whether the text spells a formula, and what is said of it. An LF at the text's end doesn't count.
--- The formula is one of the second profile, and may name the steps that are left: the widest.
-unfoldable pub formula_report : List ℕ → Bool × List ℕ
-formula_report text = report_of_form (without_lf text) (parsed_form Two true (without_lf text))
+-- Whether the text spells a formula over the operators of the profile, and what is said of it; the flag
+-- says whether it may name the steps that are left. An LF at the text's end doesn't count.
+unfoldable pub formula_report : Profile → Bool → List ℕ → Bool × List ℕ
+formula_report profile left text =
+    report_of_form (without_lf text) (parsed_form profile left (without_lf text))

@@ -1,8 +1,5 @@
 pub mod Marking
+pub mod Lines
+pub mod Views
 pub mod FormReports
-pub mod SourceLines
-pub mod WrongOperands
-pub mod Spans
-pub mod SourceReports
-pub mod Laws
-pub mod Inside
+pub mod PolicyReports

@@ -1,7 +1,7 @@
 //! The report on the text of a formula.
 
 ghost use Rattle.std.specs.Prelude.{◌≡◌, ◌+◌, ◌-◌, ◌≤◌, ◌++◌, length, reverse};
-ghost use Rattle.std.specs.Prelude.{OnOk, IfOk, Some};
+ghost use Rattle.std.specs.Prelude.{OnOk, IfOk, Some, None};
 ghost use Rattle.formula_tree.specs.Views.{form_view};
 ghost use Rattle.view_faults.specs.FormReports.{before_lf, column_of, line_around, without_lf};
 ghost use Rattle.view_faults.specs.FormReports.{form_fault_line, formula_line, form_fault_text};
@@ -10,7 +10,7 @@ ghost use Rattle.view_faults.specs.Marking.{marked_line};
 
 use crate::marking::{Span, push_marked_line, push_number};
 use crate::parsing::form_in;
-use crate::report::FormulaReport;
+use crate::report::Report;
 use formula_text::{TextFault, TextFlaw, print_form};
 use formula_tree::Form;
 use std::alloc::{AllocError, Global};
@@ -82,7 +82,7 @@ fn push_fault(out: &mut Vec<u8>, position: usize, kind: &str) -> Result<(), Allo
 fn push_place(out: &mut Vec<u8>, text: &[u8], at: usize) -> Result<(), AllocError>
     requires { at ≤ length text.now }
     ensures { OnOk result (out.new.items ≡ out.old.items
-        ++ marked_line (line_around text.now at) (Some (column_of text.now at, 0))) }
+        ++ marked_line (line_around text.now at) (Some (column_of text.now at, 0)) None) }
 {
     let start = line_start(&text[..at]);
     let end = at + before_lf(&text[at..]);
@@ -90,7 +90,7 @@ fn push_place(out: &mut Vec<u8>, text: &[u8], at: usize) -> Result<(), AllocErro
         at: at - start,
         count: 0,
     };
-    push_marked_line(out, &text[start..end], Some(span))
+    push_marked_line(out, &text[start..end], Some(span), None)
 }
 
 /// What is said of a text that spells no formula.
@@ -122,27 +122,32 @@ fn form_line(alloc: Global, form: &Form) -> Result<Vec<u8>, AllocError>
 /// the kind of the fault; the line in which that place lies, without its LF; and a mark under the
 /// place. A byte that is neither a tab nor printable is shown as `?`. The report is right if the
 /// text is a formula. An LF at the end of `text` doesn't count. The formula may use the operators
-/// of profile 2 and may name the remaining steps, the widest language that is read.
+/// of `profile`, and may name the remaining steps if `left` says so.
 ///
 /// `text` has at most `MAX_FORMULA_TEXT` bytes, since printing recurses. The grammar is that of
 /// `formula_text::read_form`.
 ///
 /// Errors: out of memory.
 #[tactic(auto, unfolding(crate::specs::FormReports::formula_report))]
-pub fn formula_lines(alloc: Global, text: &[u8]) -> Result<FormulaReport, AllocError>
+pub fn formula_lines(
+    alloc: Global,
+    profile: Profile,
+    left: bool,
+    text: &[u8],
+) -> Result<Report, AllocError>
     requires short { length text.now ≤ MAX_FORMULA_TEXT }
     ensures exact { IfOk result
-        (λ r. (r.right, r.text.items) ≡ formula_report text.now) }
+        (λ r. (r.right, r.text.items) ≡ formula_report profile left text.now) }
 {
     let text = without_lf(text);
-    match form_in(alloc, text, Profile::Two, true) {
+    match form_in(alloc, text, profile, left) {
         Ok(form) => {
             let text = form_line(alloc, &form)?;
-            Ok(FormulaReport { right: true, text })
+            Ok(Report { right: true, text })
         }
         Err(TextFault::At(at, flaw)) => {
             let text = fault_lines(alloc, text, at, flaw)?;
-            Ok(FormulaReport { right: false, text })
+            Ok(Report { right: false, text })
         }
         Err(TextFault::Memory) => Err(AllocError),
     }

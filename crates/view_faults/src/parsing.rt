@@ -4,7 +4,7 @@ ghost use Rattle.std.specs.Prelude.{IfErr};
 ghost use Rattle.formula_tree.specs.Views.{form_view};
 ghost use Rattle.formula_text.specs.Answers.{Parses};
 ghost use Rattle.formula_text.specs.Parsing.{parsed_form};
-ghost use Rattle.view_faults.specs.Inside.Views.{IsInText};
+ghost use Rattle.view_faults.specs.Views.{IsInText};
 
 use formula_text::{TextFault, read_form};
 use formula_tree::Form;

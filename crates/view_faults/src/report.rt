@@ -8,9 +8,3 @@ pub struct Report {
     /// The report: whole lines of text, each with its LF.
     pub text: Vec<u8>,
 }
-
-/// What is reported about the text of a formula.
-pub type FormulaReport = Report;
-
-/// What is reported about the text of a source.
-pub type SourceReport = Report;

@@ -2,21 +2,15 @@
 //!
 //! Errors: out of memory.
 
-ghost use Rattle.std.specs.Prelude.{◌≡◌, ◌++◌, IfOk, OnOk, decimal};
+ghost use Rattle.std.specs.Prelude.{◌≡◌, ◌++◌, IfOk, OnOk};
 ghost use Rattle.view_goal_text.specs.Lines.{numbered, part_title, why_text, mark_text};
-ghost use Rattle.view_goal_text.specs.Hints.{bounds_label};
+ghost use Rattle.view_goal_text.specs.Hints.{negative_text, worded, bounds_label};
 ghost use Rattle.view_goal_text.specs.Lines.{taken_text, goal_label, known_label, verdict_line};
 
-use itoa::Buffer;
+use crate::limits::LEAST_NEGATIVE;
 use std::alloc::{AllocError, Global};
+use view_entries::push_number;
 use view_goals::Why;
-
-pub(crate) fn push_number(out: &mut Vec<u8>, n: u64) -> Result<(), AllocError>
-    ensures { OnOk result (out.new.items ≡ out.old.items ++ decimal n) }
-{
-    let mut buffer = Buffer::new();
-    out.extend_from_slice(buffer.format(n).as_bytes())
-}
 
 /// Appends a word and the number after it.
 fn push_numbered(out: &mut Vec<u8>, word: &str, n: u64) -> Result<(), AllocError>
@@ -24,6 +18,30 @@ fn push_numbered(out: &mut Vec<u8>, word: &str, n: u64) -> Result<(), AllocError
 {
     out.extend_from_slice(word.as_bytes())?;
     push_number(out, n)
+}
+
+/// Appends a word as a number below 0, if it is near 2^64.
+#[tactic(auto, unfolding(crate::specs::Hints::negative_text))]
+fn push_negative(out: &mut Vec<u8>, n: u64) -> Result<(), AllocError>
+    ensures { OnOk result (out.new.items ≡ out.old.items ++ negative_text n) }
+{
+    if n < LEAST_NEGATIVE {
+        return Ok(());
+    }
+    out.extend_from_slice(b" (-")?;
+    push_number(out, u64::MAX - n + 1)?;
+    out.extend_from_slice(b")")?;
+    Ok(())
+}
+
+/// Appends a text and a word after it, as both numbers.
+fn push_worded(out: &mut Vec<u8>, text: &str, n: u64) -> Result<(), AllocError>
+    ensures { OnOk result (out.new.items ≡ out.old.items ++ worded text.now n) }
+{
+    out.extend_from_slice(text.as_bytes())?;
+    push_number(out, n)?;
+    push_negative(out, n)?;
+    Ok(())
 }
 
 /// The title of the part of a number.
@@ -91,15 +109,6 @@ fn push_goal_label(
     Ok(())
 }
 
-/// Appends the line of the hypothesis that a branch adds, up to its formula.
-fn push_known_label(out: &mut Vec<u8>, number: u64, at: u32, taken: bool) -> Result<(), AllocError>
-    ensures { OnOk result (out.new.items ≡ out.old.items ++ known_label number at taken) }
-{
-    push_numbered(out, "known ", number)?;
-    push_numbered(out, ", ", u64::from(at))?;
-    push_taken(out, taken)
-}
-
 /// Returns the title of a part, from its number and the index where it begins.
 pub(crate) fn title_label(alloc: Global, number: usize, at: u32) -> Result<Vec<u8>, AllocError>
     ensures { IfOk result (λ v. v.items ≡ part_title number at) }
@@ -123,8 +132,8 @@ pub(crate) fn bounds_label(alloc: Global, upper: u64, lower: u64) -> Result<Vec<
     ensures { IfOk result (λ v. v.items ≡ bounds_label upper lower) }
 {
     let mut label = Vec::new(alloc);
-    push_numbered(&mut label, "  the left side is at most ", upper)?;
-    push_numbered(&mut label, ", the right side at least ", lower)?;
+    push_worded(&mut label, "  the left side is at most ", upper)?;
+    push_worded(&mut label, ", the right side at least ", lower)?;
     Ok(label)
 }
 
@@ -153,7 +162,9 @@ pub(crate) fn known_label(
     ensures { IfOk result (λ v. v.items ≡ known_label number at taken) }
 {
     let mut label = Vec::new(alloc);
-    push_known_label(&mut label, number, at, taken)?;
+    push_numbered(&mut label, "known ", number)?;
+    push_numbered(&mut label, ", ", u64::from(at))?;
+    push_taken(&mut label, taken)?;
     Ok(label)
 }
 

@@ -9,19 +9,18 @@ ghost use Rattle.term_table.specs.Table.{IsKnown, tree_at, id_trees};
 ghost use Rattle.proof_container.specs.Postorder.{is_emitted, AreEmitted};
 ghost use Rattle.proof_container.specs.Walks.{IsLeft};
 ghost use Rattle.proof_container.specs.Inside.Walked.{left_trees};
-ghost use Rattle.view_entries.specs.Entries.{entry_name, entry_line};
+ghost use Rattle.view_entries.specs.Entries.{entry_line};
 ghost use Rattle.view_goal_text.specs.Texts.{with_lf, entries_text};
 ghost use Rattle.view_goal_text.specs.Inside.Shown.{line_view, HasKnownLong, AreKnownLines};
 ghost use Rattle.view_goal_text.specs.Inside.Shown.{name_part, shown_text, shown_longs};
 ghost use Rattle.view_goal_text.specs.Inside.Shown.{shown_lines_text};
 
 use crate::copies::{copy_of, number};
-use crate::labels::push_number;
 use crate::lines::ShownLine;
 use proof_container::{Walk, walk_from};
 use std::alloc::{AllocError, Global};
 use term_table::{Id, Table};
-use view_entries::push_entry;
+use view_entries::{push_entry, push_name};
 
 /// Adds the id of a line's term that has no short text, if there is one.
 fn push_long(ids: &mut Vec<(u32, Id)>, table: &Table, line: &ShownLine) -> Result<(), AllocError>
@@ -54,14 +53,6 @@ fn long_ids(alloc: Global, table: &Table, lines: &[ShownLine]) -> Result<Vec<(u3
         push_long(&mut ids, table, &lines[index])?;
     }
     Ok(ids)
-}
-
-/// The name of the entry of a number.
-fn push_name(out: &mut Vec<u8>, number: u64) -> Result<(), AllocError>
-    ensures { OnOk result (out.new.items ≡ out.old.items ++ entry_name number) }
-{
-    out.push(b'e')?;
-    push_number(out, number)
 }
 
 /// The name of the entry of a line's term, if there is one.

@@ -32,7 +32,8 @@ use Rattle.x86_machine.specs.Machine.{disp_address, x86_outcome, fetched, x86_st
 
 -- ---- words
 
-words-set : (regs : List ℕ) (to word : ℕ) → ((r : ℕ) → slice_index regs r < 2 ^ 64) → word < 2 ^ 64 → (q : ℕ) → slice_index (slice_set regs to word) q < 2 ^ 64
+pub words-set : (regs : List ℕ) (to word : ℕ) → ((r : ℕ) → slice_index regs r < 2 ^ 64) → word < 2 ^ 64 →
+    (q : ℕ) → slice_index (slice_set regs to word) q < 2 ^ 64
 words-set regs to word h w q = elim (cases_eq q to) [
   | inl e ↦ elim (cases_lt to (length regs)) [
     | inl within ↦ rw (e, get_or-set_same regs to word 0 within) w
@@ -53,12 +54,12 @@ alu_word-below alu.Sub a b p q = word_of-below ops.Sub a b p q
 alu_word-below alu.Xor a b p q = word_of-below ops.Xor a b p q
 alu_word-below alu.Cmp a b p q = word_of-below ops.Sub a b p q
 
-shift_word-below : (op : ShiftOp) (a count : ℕ) → a < 2 ^ 64 → shift_word op a count < 2 ^ 64
+pub shift_word-below : (op : ShiftOp) (a count : ℕ) → a < 2 ^ 64 → shift_word op a count < 2 ^ 64
 shift_word-below shift.Shl a count p = mod_below (a * 2 ^ (count % 64)) (2 ^ 64) (omega arith)
 shift_word-below shift.Shr a count p = omega (arith, p, shr_le a (count % 64))
 shift_word-below shift.Sar a count p = shifted_signed-below a (count % 64) p
 
-low_byte-below : (a : ℕ) (b : Bool) → a < 2 ^ 64 → with_low_byte a b < 2 ^ 64
+pub low_byte-below : (a : ℕ) (b : Bool) → a < 2 ^ 64 → with_low_byte a b < 2 ^ 64
 low_byte-below a true p = omega (arith, p)
 low_byte-below a false p = omega (arith, p)
 

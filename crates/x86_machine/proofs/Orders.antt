@@ -1,14 +1,16 @@
 -- What the flags of a compare say.
-use Rattle.std.proofs.Common.{◌≡◌, ℕ, suc, ◌+◌, ◌-◌, ◌^◌, ◌<◌, ◌≤◌, Bool, true, false, ltb, leb, eqb, ◌||◌, ℤ, pos, negsuc, ◌-ℤ◌, refl, ap, ◌∙◌}
+use Rattle.std.proofs.Common.{◌≡◌, ℕ, suc, ◌+◌, ◌-◌, ◌^◌, ◌<◌, ◌≤◌, Bool, true, false, ltb, leb, eqb, ◌||◌, ℤ, pos, negsuc, ◌-ℤ◌, refl, ap, sym, ◌∙◌}
 use Rattle.std.proofs.Common.{arith, inl, inr}
+use Rattle.std.specs.Int.Bits.{and_self}
 use Rattle.std.proofs.lemmas.Bool.{cases_lt, cases_eq, cases_order, lt-ltb, le-ltb, le-leb, lt-leb, eq-eqb, ne_eqb}
 use Rattle.std.proofs.lemmas.Int.{ints, to_z_pos}
 use Rattle.std.specs.Int.{w64}
 use borrow.Author.Differences.{up, down}
 use Rattle.word_ops.specs.declared.Rel.TheVariants.{Slt, Sle}
 use Rattle.word_ops.specs.Words.{signed, test_of}
-use Rattle.x86_words.specs.declared.operators.AluOp.TheVariants.{Cmp}
-use Rattle.x86_machine.specs.Flags.{alu_word, is_high, is_outside, differ, AfterCmp}
+use Rattle.x86_words.specs.declared.operators.AluOp.TheVariants.{And, Cmp}
+use Rattle.x86_words.specs.declared.operators.X86Cond.TheVariants.{Equal, Sign, Less, LessOrEqual}
+use Rattle.x86_machine.specs.Flags.{alu_word, alu_flags, is_high, is_outside, differ, cond_holds, AfterCmp, AfterTest, AfterSubOne}
 
 low : (a : ℕ) → a < 2 ^ 63 → signed a ≡ pos a
 low a h = to_z_pos w64 a h
@@ -155,4 +157,48 @@ after_cmp a b p q = record {
   less = less-says a b p q;
   less_or_equal = ap (λ z. z || differ (is_high (alu_word Cmp a b)) (is_outside (signed a -ℤ signed b))) (zero-says a b p q) ∙ ap (λ z. eqb a b || z)
       (less-says a b p q) ∙ or_signed a b p q;
+}
+
+-- ---- after a test, and after one is taken
+
+no_overflow : (a : ℕ) → a < 2 ^ 64 → is_outside (signed a -ℤ signed 0) ≡ false
+no_overflow a r = elim (cases_lt a (2 ^ 63)) [
+  | inl p ↦ rw (low a p) (in-range (pos a -ℤ pos 0) (omega (arith, ints, p)) (omega (arith, ints, p)))
+  | inr p ↦
+      let x = negsuc (2 ^ 64 - suc a) in
+      rw (high a p) (in-range (x -ℤ pos 0) (omega (arith, ints, p, r)) (omega (arith, ints, p, r)))
+]
+
+-- `test a,a` gives the flags of `cmp a,0`
+test-cmp : (a : ℕ) → a < 2 ^ 64 → alu_flags And a a ≡ alu_flags Cmp a 0
+test-cmp a r =
+    let same : alu_word Cmp a 0 ≡ a = omega (arith, r) in
+    rw (and_self a, same, le-ltb a 0 (omega arith), no_overflow a r) refl
+
+differ_false : (b : Bool) → differ b false ≡ b
+differ_false true = refl
+differ_false false = refl
+
+-- without overflow, less is negative
+sign-less : (a : ℕ) → a < 2 ^ 64 → cond_holds Sign (alu_flags Cmp a 0) ≡ cond_holds Less (alu_flags Cmp a 0)
+sign-less a r = rw (no_overflow a r) (sym (differ_false (is_high (alu_word Cmp a 0))))
+
+pub after_test : (a : ℕ) → a < 2 ^ 64 → AfterTest a
+after_test a r =
+    let cmp : AfterCmp a 0 = after_cmp a 0 r (omega arith) in
+    let same = test-cmp a r in
+    record {
+      equal = ap (cond_holds Equal) same ∙ cmp.equal;
+      sign = ap (cond_holds Sign) same ∙ sign-less a r ∙ cmp.less;
+      less_or_equal = ap (cond_holds LessOrEqual) same ∙ cmp.less_or_equal;
+      low = refl;
+    }
+
+pub after_sub_one : (f : ℕ) → f < 2 ^ 64 → AfterSubOne f
+after_sub_one f r = record {
+  word = λ p. omega (arith, p, r);
+  below = elim (cases_eq f 0) [
+    | inl e ↦ rw (lt-ltb f 1 (omega (arith, e)), eq-eqb f 0 e) refl
+    | inr n ↦ rw (le-ltb f 1 (omega (arith, n)), ne_eqb f 0 n) refl
+  ];
 }

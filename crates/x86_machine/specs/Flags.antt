@@ -2,7 +2,7 @@
 -- Intel 64 and IA-32 Architectures Software Developer's Manual, volume 1: section 3.4.3.1, "Status Flags", and appendix B, "EFLAGS Condition
 -- Codes"; volume 2: "Operation" and "Flags Affected" of each instruction's page. The adjust and parity flags aren't modelled: no condition
 -- of the subset reads them.
-use Rattle.std.specs.Prelude.{◌≡◌, ℕ, ◌+◌, ◌^◌, Bool, true, false, not, ◌||◌, ◌==◌, nat_le, nat_lt, ℤ, pos, negsuc, ◌+ℤ◌, ◌-ℤ◌, List, slice_index, slice_set}
+use Rattle.std.specs.Prelude.{◌≡◌, ℕ, ◌+◌, ◌-◌, ◌^◌, ◌<◌, Bool, true, false, not, ◌||◌, ◌==◌, nat_le, nat_lt, bit_and, ℤ, pos, negsuc, ◌+ℤ◌, ◌-ℤ◌, List, slice_index, slice_set}
 use Rattle.word_ops.specs.declared.Op.TheVariants as ops
 use Rattle.word_ops.specs.declared.Rel.TheVariants.{Eq, Ult, Ule, Slt, Sle}
 use Rattle.word_ops.specs.Words.{word_of, signed, test_of}
@@ -83,3 +83,15 @@ pub record AfterCmp (a b : ℕ) : Type 0 where
   pub below_or_equal : cond_holds BelowOrEqual (alu_flags Cmp a b) ≡ test_of Ule a b
   pub less : cond_holds Less (alu_flags Cmp a b) ≡ test_of Slt a b
   pub less_or_equal : cond_holds LessOrEqual (alu_flags Cmp a b) ≡ test_of Sle a b
+
+-- After `test a,a` the conditions say how a compares with 0; after `test a,1`, `e` says that bit 0 is clear.
+pub record AfterTest (a : ℕ) : Type 0 where
+  pub equal : cond_holds Equal (alu_flags And a a) ≡ test_of Eq a 0
+  pub sign : cond_holds Sign (alu_flags And a a) ≡ test_of Slt a 0
+  pub less_or_equal : cond_holds LessOrEqual (alu_flags And a a) ≡ test_of Sle a 0
+  pub low : cond_holds Equal (alu_flags And a 1) ≡ (bit_and a 1 == 0)
+
+-- `sub f,1` takes one from a count that isn't 0, and borrows exactly if it is 0.
+pub record AfterSubOne (f : ℕ) : Type 0 where
+  pub word : 0 < f → alu_word Sub f 1 ≡ f - 1
+  pub below : cond_holds Below (alu_flags Sub f 1) ≡ test_of Eq f 0

@@ -3,12 +3,15 @@
 ghost use Rattle.std.specs.Prelude.{◌≡◌, ℕ, ◌+◌, ◌^◌, ◌<◌, ◌↔◌, List, Some};
 ghost use Rattle.x86_words.specs.declared.insn.X86Insn.{X86Insn};
 ghost use Rattle.x86_machine.specs.declared.outcome.X86Outcome.TheVariants.{OutOfSteps};
-ghost use Rattle.x86_machine.specs.Flags.{AfterCmp};
+ghost use Rattle.x86_machine.specs.Flags.{AfterCmp, AfterTest, AfterSubOne};
 ghost use Rattle.x86_machine.specs.Machine.{X86, IsX86, StandsAtOffset, fetched, x86_step, x86_run};
 
-/// Proves that conditions after a compare are the relations between the two words.
+/// Proves what conditions say: after a compare, the relations between the two words; after `test`,
+/// how the word compares with 0, or its bit 0; after `sub f,1`, whether the count f was 0.
 pub fn flag_laws()
     ensures compares { (a b : ℕ) → a < 2 ^ 64 → b < 2 ^ 64 → AfterCmp a b }
+    ensures tests { (a : ℕ) → a < 2 ^ 64 → AfterTest a }
+    ensures counts { (f : ℕ) → f < 2 ^ 64 → AfterSubOne f }
 {}
 
 /// Proves that a step takes the instruction that stands at the offset, if there is one, and what

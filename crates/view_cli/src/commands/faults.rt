@@ -1,5 +1,5 @@
-//! `formula FILE`, and `source FILE [--v2] [--bound N]`: shows what a text is, or what is wrong
-//! with it.
+//! `formula FILE [--v2] [--bound]`, `formula FILE --policy`, and `source FILE [--v2] [--bound N]`:
+//! shows what a text is, or what is wrong with it.
 
 ghost use Rattle.std.specs.Prelude.{◌≡◌, ◌≤◌, length, IfOk};
 ghost use Rattle.asm_text.specs.declared.limits.TheConstants.{MAX_SOURCE};
@@ -7,19 +7,22 @@ ghost use Rattle.proof_container.specs.Versions.{IsVersion, IsBoundOf};
 ghost use Rattle.pcc_words.specs.Commands.{IsVersionOf};
 ghost use Rattle.pcc_stages.specs.Stage.{gives};
 ghost use Rattle.pcc_stages.specs.Answers.{Gives, GivesPure};
-ghost use Rattle.view_faults.specs.SourceReports.{source_report};
+ghost use Rattle.view_faults.specs.PolicyReports.{policy_report};
+ghost use Rattle.view_source_faults.specs.SourceReports.{source_report};
 ghost use Rattle.view_cli.specs.Commands.Faults.{text_of, told_exit, formula_exit};
-ghost use Rattle.view_cli.specs.Commands.Faults.{formula_command, source_command};
+ghost use Rattle.view_cli.specs.Commands.Faults.{formula_command, policy_command, source_command};
 ghost use Rattle.view_cli.specs.Reports.{exit_of_report};
 
-use crate::SourceArgs;
 use crate::limits::MAX_FORMULA;
 use crate::report::Report;
+use crate::{FormulaArgs, SourceArgs};
 use asm_text::MAX_SOURCE;
 use file_port::Files;
-use pcc_stages::{RefusedLine, Stop, bytes_of};
+use pcc_stages::{MAX_POLICY_FILE, RefusedLine, Stop, bytes_of};
 use std::alloc::Global;
-use view_faults::{Report as Told, formula_lines, source_lines};
+use view_faults::{Report as Told, formula_lines, policy_lines};
+use view_source_faults::source_lines;
+use word_ops::Profile;
 
 /// Reads the text in the file with this name.
 pub fn text_of<'a, F: Files>(
@@ -52,13 +55,28 @@ fn told(told: Told) -> Report
 }
 
 /// What is said of a formula's text.
-fn formula_told<'a>(alloc: Global, text: &[u8]) -> Result<Report, Stop<'a>>
-    ensures { GivesPure exit_of_report (gives (formula_exit text.now)) result }
+fn formula_told<'a>(
+    alloc: Global,
+    profile: Profile,
+    left: bool,
+    text: &[u8],
+) -> Result<Report, Stop<'a>>
+    ensures { GivesPure exit_of_report (gives (formula_exit profile left text.now)) result }
 {
     if text.len() > MAX_FORMULA {
         return Ok(Report::FormulaTooLong);
     }
-    match formula_lines(alloc, text) {
+    match formula_lines(alloc, profile, left, text) {
+        Ok(said) => Ok(told(said)),
+        Err(_) => Err(Stop::Memory),
+    }
+}
+
+/// What is said of a policy's text.
+fn policy_told<'a>(alloc: Global, text: &[u8]) -> Result<Report, Stop<'a>>
+    ensures { GivesPure exit_of_report (gives (told_exit (policy_report text.now))) result }
+{
+    match policy_lines(alloc, text) {
         Ok(said) => Ok(told(said)),
         Err(_) => Err(Stop::Memory),
     }
@@ -85,14 +103,34 @@ fn source_told<'a>(
 /// Reads the text, and reports which formula it is, or what is wrong with it.
 pub fn formula_command<'a, F: Files>(
     alloc: Global,
+    args: FormulaArgs<'a>,
+    files: &mut F,
+) -> Result<Report, Stop<'a>>
+    ensures { let a = args.entry in
+        Gives exit_of_report (formula_command a.file.now a.profile a.left)
+        (F.log files.old) (F.log files.new) (F.state files.old) (F.state files.new) result }
+{
+    let text = text_of(alloc, args.file, files)?;
+    formula_told(alloc, args.profile, args.left, &text)
+}
+
+/// Reads the text, and reports which policy it is, or what is wrong with it.
+pub fn policy_command<'a, F: Files>(
+    alloc: Global,
     name: &'a str,
     files: &mut F,
 ) -> Result<Report, Stop<'a>>
-    ensures { Gives exit_of_report (formula_command name.entry.now)
+    ensures { Gives exit_of_report (policy_command name.entry.now)
         (F.log files.old) (F.log files.new) (F.state files.old) (F.state files.new) result }
 {
-    let text = text_of(alloc, name, files)?;
-    formula_told(alloc, &text)
+    let text = bytes_of(
+        alloc,
+        name,
+        MAX_POLICY_FILE,
+        RefusedLine::PolicyTooLong,
+        files,
+    )?;
+    policy_told(alloc, &text)
 }
 
 /// Reads the text, and reports what is in the source that it is, or what is wrong with it.

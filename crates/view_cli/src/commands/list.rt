@@ -1,17 +1,17 @@
-//! `list FILE [SOURCE]`: shows a container as a source.
+//! `list FILE [SOURCE]`: shows a container as a source, or what a file looks like that is none.
 
 ghost use Rattle.std.specs.Prelude.{◌≡◌, ◌≤◌, length, map, option_map, Ok, IfOk};
 ghost use Rattle.asm_text.specs.declared.limits.TheConstants.{MAX_SOURCE};
 ghost use Rattle.proof_container.specs.Contents.{Contents};
 ghost use Rattle.proof_container.specs.Decoding.{decoded_container};
-ghost use Rattle.proof_container.specs.Views.{contents_of};
 ghost use Rattle.view_container.specs.Listing.{listing_text};
 ghost use Rattle.pcc_stages.specs.Runs.{done_exit};
 ghost use Rattle.pcc_stages.specs.Stage.{gives};
 ghost use Rattle.pcc_stages.specs.Answers.{Gives, GivesPure};
 ghost use Rattle.pcc_stages.specs.declared.files.TheConstants.{MAX_FILE};
-ghost use Rattle.view_cli.specs.Commands.List.{container_found, lines_in, source_lines_of};
-ghost use Rattle.view_cli.specs.Commands.List.{list_command};
+ghost use Rattle.view_cli.specs.Commands.List.{lines_in, source_lines_of, unlisted_exit};
+ghost use Rattle.view_cli.specs.Commands.List.{listing_beside, listing_in, list_command};
+ghost use Rattle.view_cli.specs.Inside.Founds.{IsFoundIn};
 ghost use Rattle.view_cli.specs.Reports.{exit_of_report};
 
 use crate::ListArgs;
@@ -21,22 +21,43 @@ use asm_text::{LineFault, SrcInsn, read_source};
 use file_port::Files;
 use pcc_gate::Refusal;
 use pcc_stages::{MAX_FILE, RefusedLine, Stop, bytes_of};
-use proof_container::{Container, Malformed, profile_of, read};
+use proof_container::{Flaw, Malformed, profile_of, read};
 use std::alloc::{AllocError, Global};
 use view_container::{ListFault, list};
+use view_looks::look_of;
 
-/// The container that the bytes are.
-fn container_in<'a, 'b>(alloc: Global, bytes: &'b [u8]) -> Result<Container<'b>, Stop<'a>>
-    ensures exact { GivesPure contents_of
-        (container_found (decoded_container bytes.entry.now)) result }
-    ensures read { IfOk result (λ c. decoded_container bytes.entry.now ≡ Ok (contents_of c)) }
+/// What bytes are found to be that were read as a container.
+#[derive(Clone, Copy, Debug, PartialEq, Eq)]
+pub enum Found {
+    /// A container of this version, with this bound.
+    Container(u32, Option<u32>),
+    /// No container, at this offset and for this reason.
+    Not(u64, Flaw),
+}
+
+/// What the bytes are found to be. Errors: out of memory.
+fn found_in(alloc: Global, bytes: &[u8]) -> Result<Found, AllocError>
+    ensures { IfOk result (IsFoundIn bytes.now) }
 {
     match read(alloc, bytes) {
-        Ok(container) => Ok(container),
-        Err(Malformed::At(offset, flaw)) => Err(Stop::Refused(RefusedLine::Container(
-            Refusal::Malformed(offset, flaw),
-        ))),
-        Err(Malformed::Memory) => Err(Stop::Memory),
+        Ok(container) => {
+            let (version, bound) = (container.version, container.bound);
+            drop(container);
+            Ok(Found::Container(version, bound))
+        }
+        Err(Malformed::At(offset, flaw)) => Ok(Found::Not(offset, flaw)),
+        Err(Malformed::Memory) => Err(AllocError),
+    }
+}
+
+/// What is said of bytes that aren't a container, at this offset and for this reason.
+fn unlisted<'a>(alloc: Global, offset: u64, flaw: Flaw, bytes: &[u8]) -> Result<Report, Stop<'a>>
+    requires { length bytes.now ≤ MAX_FILE }
+    ensures { GivesPure exit_of_report (gives (unlisted_exit bytes.now (offset, flaw))) result }
+{
+    match look_of(alloc, bytes) {
+        Ok(look) => Ok(Report::NoContainer(offset, flaw, look)),
+        Err(_) => Err(Stop::Memory),
     }
 }
 
@@ -109,6 +130,47 @@ fn listed<'a>(alloc: Global, bytes: &[u8], lines: &[u32]) -> Result<Report, Stop
     }
 }
 
+/// Reads the source if it is given, and lists the container that the bytes are, of this version and
+/// with this bound.
+fn listed_beside<'a, F: Files>(
+    alloc: Global,
+    version: u32,
+    bound: Option<u32>,
+    bytes: &[u8],
+    source: Option<&'a str>,
+    files: &mut F,
+) -> Result<Report, Stop<'a>>
+    requires { length bytes.now ≤ MAX_FILE }
+    ensures { (c : Contents) → decoded_container bytes.now ≡ Ok c → c.version ≡ version
+        → c.bound ≡ bound
+        → Gives exit_of_report (listing_beside (option_map (λ n. n.now) source.entry) c)
+        (F.log files.old) (F.log files.new) (F.state files.old) (F.state files.new) result }
+{
+    let lines = lines_of(alloc, version, bound, source, files)?;
+    listed(alloc, bytes, &lines)
+}
+
+/// Reads the source if it is given, and lists the container that the bytes are, if they are one.
+fn listed_in<'a, F: Files>(
+    alloc: Global,
+    bytes: &[u8],
+    source: Option<&'a str>,
+    files: &mut F,
+) -> Result<Report, Stop<'a>>
+    requires { length bytes.now ≤ MAX_FILE }
+    ensures { Gives exit_of_report (listing_in (option_map (λ n. n.now) source.entry) bytes.now
+        (decoded_container bytes.now))
+        (F.log files.old) (F.log files.new) (F.state files.old) (F.state files.new) result }
+{
+    match found_in(alloc, bytes) {
+        Ok(Found::Container(version, bound)) => {
+            listed_beside(alloc, version, bound, bytes, source, files)
+        }
+        Ok(Found::Not(offset, flaw)) => unlisted(alloc, offset, flaw, bytes),
+        Err(_) => Err(Stop::Memory),
+    }
+}
+
 /// Reads the container, and the source if it is given, and lists the container.
 pub fn list_command<'a, F: Files>(
     alloc: Global,
@@ -126,9 +188,5 @@ pub fn list_command<'a, F: Files>(
         RefusedLine::ContainerTooLong,
         files,
     )?;
-    let container = container_in(alloc, &bytes)?;
-    let (version, bound) = (container.version, container.bound);
-    drop(container);
-    let lines = lines_of(alloc, version, bound, args.source, files)?;
-    listed(alloc, &bytes, &lines)
+    listed_in(alloc, &bytes, args.source, files)
 }

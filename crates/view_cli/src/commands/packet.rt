@@ -5,7 +5,7 @@ ghost use Rattle.packet_store.specs.declared.reader.TheConstants.{MAX_PACKET};
 ghost use Rattle.pcc_words.specs.Commands.{word_view};
 ghost use Rattle.pcc_stages.specs.Stage.{gives};
 ghost use Rattle.pcc_stages.specs.Answers.{Gives, GivesPure};
-ghost use Rattle.view_cli.specs.Commands.Packet.{packet_exit, packet_command};
+ghost use Rattle.view_cli.specs.Commands.Packet.{traced_exit, packet_exit, packet_command};
 ghost use Rattle.view_cli.specs.Reports.{exit_of_report};
 
 use crate::PacketArgs;
@@ -45,7 +45,7 @@ fn traced<'a>(
     packets: &PacketFile,
 ) -> Result<Report, Stop<'a>>
     ensures { GivesPure exit_of_report
-        (gives (packet_exit policy code steps number (slice_get packets.now number))) result }
+        (gives (traced_exit policy code steps number (slice_get packets.now number))) result }
 {
     let Some(packet) = packet_at(packets, number) else {
         return Ok(Report::NoPacket(number));
@@ -63,6 +63,24 @@ fn traced<'a>(
     }
 }
 
+/// The run on the packet of a number, if the policy has a start.
+fn started<'a>(
+    alloc: Global,
+    policy: Policy,
+    code: Code,
+    steps: u64,
+    number: u64,
+    packets: &PacketFile,
+) -> Result<Report, Stop<'a>>
+    ensures { GivesPure exit_of_report
+        (gives (packet_exit policy code steps number (slice_get packets.now number))) result }
+{
+    match policy.kind() {
+        None => Ok(Report::NoStart),
+        Some(_) => traced(alloc, policy, code, steps, number, packets),
+    }
+}
+
 /// Reads the container and the packets, and reserves all memory that the run needs.
 pub fn packet_command<'a, F: Files>(
     alloc: Global,
@@ -76,5 +94,5 @@ pub fn packet_command<'a, F: Files>(
     let policy = policy_told(alloc, args.policy, files)?;
     let code = code_of(alloc, &policy, args.file, files)?;
     let packets = packets_of(alloc, args.packets, files)?;
-    traced(alloc, policy, code, args.steps, args.number, &packets)
+    started(alloc, policy, code, args.steps, args.number, &packets)
 }

@@ -1,5 +1,5 @@
 use Rattle.std.proofs.Common.{ℕ, List, Vec, Global, subst}
-use Rattle.view_faults.specs.SourceReports.{source_report}
+use Rattle.view_source_faults.specs.SourceReports.{source_report}
 use Rattle.pcc_stages.specs.Stage.{gives}
 use Rattle.pcc_stages.specs.Answers.{GivesPure}
 use Rattle.pcc_stages.proofs.StageLemmas.{lifted, stops_first, gives_then}

@@ -63,5 +63,5 @@ returns g c =
     exit_of_report (code_of under a.file.now) _ _ _ _ _ _ code _ c.in_ok-code.ensures
     (gives_then (last_stage under code a.steps a.number) (λ (p : List (List ℕ)). p)
     exit_of_report (packets_of a.packets.now) _ _ _ _ _ _ all _ c.in_ok-packets.ensures
-    (lifted exit_of_report (last_stage under code a.steps a.number all) _ _ c.traced.result
-    c.traced.ensures)))
+    (lifted exit_of_report (last_stage under code a.steps a.number all) _ _ c.started.result
+    c.started.ensures)))

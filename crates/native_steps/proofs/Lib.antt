@@ -1,0 +1,6 @@
+pub mod Straights
+pub mod Frames
+pub mod Operators
+pub mod Operands
+pub mod Instructions
+pub mod Assigning

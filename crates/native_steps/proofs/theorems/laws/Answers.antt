@@ -1,0 +1,5 @@
+use Rattle.native_steps.proofs.Instructions.{simulates, tests}
+use Rattle.native_steps.proofs.theorems.laws.Goals as goal
+
+pub returns : goal.returns
+returns c = record { simulates = simulates; tests = tests }

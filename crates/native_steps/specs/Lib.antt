@@ -1,0 +1,4 @@
+pub mod Places
+pub mod Sequences
+pub mod Straight
+pub mod Agreement

@@ -1,0 +1,6 @@
+pub mod SameTokens
+pub mod Assembled
+pub mod FaultLines
+pub mod SourceSaid
+pub mod WrongFound
+pub mod Marked

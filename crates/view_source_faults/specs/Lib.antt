@@ -1,0 +1,6 @@
+pub mod SourceLines
+pub mod WrongOperands
+pub mod Spans
+pub mod SourceReports
+pub mod Laws
+pub mod Inside
