@@ -27,6 +27,8 @@ mod formula_tree_tests;
 #[cfg(test)]
 mod law_tests;
 #[cfg(test)]
+mod lemma_tests;
+#[cfg(test)]
 mod library_tests;
 #[cfg(test)]
 mod pcc_asm_tests;
