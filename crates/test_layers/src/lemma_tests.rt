@@ -169,7 +169,8 @@ fn are_sequents(table: &mut Table, lemmas: &[(Id, Id)], p: &Sequent, q: &Sequent
     ensures extends { Extends table.old table.new }
 {
     is_sequent(table, lemmas, p)?;
-    is_sequent(table, lemmas, q)
+    is_sequent(table, lemmas, q)?;
+    Ok(())
 }
 
 // ---- rules
@@ -283,23 +284,40 @@ fn implied(table: &mut Table, a: Id, b: Id) -> Made<Way> {
     Ok(Way::Under(Step { rule, a, b }, kind, b))
 }
 
+/// How a formula that begins with a constant at a function is proved.
+fn way_of_quantifier(table: &mut Table, constant: u32, function: Id) -> Made<Way> {
+    match constant {
+        ALL => quantified(table, Rule::All, EXP, function),
+        ALLM => quantified(table, Rule::Allm, MEM, function),
+        _ => Ok(Way::Cite),
+    }
+}
+
+/// How a formula that joins two is proved.
+fn way_of_connective(table: &mut Table, constant: u32, a: Id, b: Id) -> Made<Way> {
+    match constant {
+        IMP => implied(table, a, b),
+        AND => Ok(Way::Both(Step {
+            rule: Rule::And,
+            a,
+            b,
+        })),
+        _ => Ok(Way::Cite),
+    }
+}
+
 /// How the formula is proved.
 fn way_of(table: &mut Table, formula: Id) -> Made<Way> {
     let Node::App(head, last) = node_of(table, formula)? else {
         return Ok(Way::Cite);
     };
-    match node_of(table, head)? {
-        Node::Const(ALL) => quantified(table, Rule::All, EXP, last),
-        Node::Const(ALLM) => quantified(table, Rule::Allm, MEM, last),
-        Node::App(connective, first) => match node_of(table, connective)? {
-            Node::Const(IMP) => implied(table, first, last),
-            Node::Const(AND) => Ok(Way::Both(Step {
-                rule: Rule::And,
-                a: first,
-                b: last,
-            })),
-            _ => Ok(Way::Cite),
-        },
+    let (connective, first) = match node_of(table, head)? {
+        Node::Const(constant) => return way_of_quantifier(table, constant, last),
+        Node::App(connective, first) => (connective, first),
+        _ => return Ok(Way::Cite),
+    };
+    match node_of(table, connective)? {
+        Node::Const(constant) => way_of_connective(table, constant, first, last),
         _ => Ok(Way::Cite),
     }
 }
