@@ -4,7 +4,7 @@ use Rattle.lf_signature.specs.declared.WordSignature.TheVariants.{Sigma3}
 use Rattle.lf_lemmas.specs.Checking.{LemmasCheck}
 use Rattle.lf_lemmas.specs.Tables.{lemmas_in}
 use Rattle.lf_lemmas.specs.Laws.Lawful.{lemmas_stay, lemmas_hold}
-use Rattle.test_layers.proofs.lemma_tests.are_proofs.Goals as goal
+use Rattle.test_layers.proofs.rules.are_proofs.Goals as goal
 
 pub first_unproved-requires-clause-kept : goal.first_unproved-requires-clause-kept
 first_unproved-requires-clause-kept c = c.new-kept.ensures.kept (declared Sigma3) c.args.table.now

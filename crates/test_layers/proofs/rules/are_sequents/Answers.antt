@@ -6,7 +6,7 @@ use Rattle.lf_lemmas.specs.Tables.{lemmas_in}
 use Rattle.lf_lemmas.specs.Laws.Lawful.{lemmas_same}
 use Rattle.lf_sequents.specs.Sequents.{IsSequent}
 use Rattle.lf_sequents.proofs.Fitting.{sequent-more}
-use Rattle.test_layers.proofs.lemma_tests.are_sequents.Goals as goal
+use Rattle.test_layers.proofs.rules.are_sequents.Goals as goal
 
 pub returns-clause-sequents : goal.returns-clause-sequents
 returns-clause-sequents c =

@@ -1,7 +1,4 @@
-use Rattle.test_layers.proofs.lemma_tests.ruled.Goals as goal
-
-pub and_i-requires-clause-kept : goal.and_i-requires-clause-kept
-and_i-requires-clause-kept g c = c.new-kept.ensures.kept _ _
+use Rattle.test_layers.proofs.rules.bound.Goals as goal
 
 pub imp_i-requires-clause-kept : goal.imp_i-requires-clause-kept
 imp_i-requires-clause-kept g c = c.new-kept.ensures.kept _ _

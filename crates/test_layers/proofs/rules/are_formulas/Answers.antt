@@ -1,7 +1,7 @@
 use Rattle.std.proofs.Common.{◌∙◌, sym, refl}
 use Rattle.lf_signature.specs.Constants.{declared}
 use Rattle.lf_signature.specs.declared.WordSignature.TheVariants.{Sigma3}
-use Rattle.test_layers.proofs.lemma_tests.are_formulas.Goals as goal
+use Rattle.test_layers.proofs.rules.are_formulas.Goals as goal
 
 pub first_failing-requires-clause-kept : goal.first_failing-requires-clause-kept
 first_failing-requires-clause-kept c = c.new-kept.ensures.kept (declared Sigma3) c.args.table.now

@@ -9,7 +9,7 @@ use Rattle.lf_lemmas.specs.Tables.{lemmas_in}
 use Rattle.lf_lemmas.specs.Laws.Lawful.{lemmas_same, proved_hold}
 use Rattle.lf_sequents.specs.Sequents.{IsSequent}
 use Rattle.lf_sequents.proofs.Fitting.{sequent-more}
-use Rattle.test_layers.proofs.lemma_tests.is_sequent.Goals as goal
+use Rattle.test_layers.proofs.rules.is_sequent.Goals as goal
 
 pub returns-in-Ok-true-clause-holds : goal.returns-in-Ok-true-clause-holds
 returns-in-Ok-true-clause-holds c =
