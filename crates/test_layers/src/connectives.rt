@@ -2,7 +2,7 @@
 //! lemma or, where there is none, as a relation of words.
 
 use crate::answers::{Made, made};
-use crate::nodes::{Pair, known, node_of, pair_of, raised};
+use crate::nodes::{known, node_of, pair_of, raised};
 use crate::relations;
 use crate::rules::{Rule, Step, Under};
 use lf_sequents::Sequent;
@@ -39,13 +39,22 @@ fn implied(table: &mut Table, a: Id, b: Id) -> Made<Way> {
 
 /// How a formula that joins two is proved.
 fn way_of_pair(table: &mut Table, formula: Id) -> Made<Way> {
-    match pair_of(table, formula) {
-        Ok(Pair { constant, a, b }) => match constant {
-            IMP => implied(table, a, b),
-            AND => Ok(Way::Both(Step::at_both(Rule::AndI, a, b))),
-            _ => Ok(Way::Leaf),
-        },
-        Err(_) => Ok(Way::Leaf),
+    let Ok(parts) = pair_of(table, formula) else {
+        return Ok(Way::Leaf);
+    };
+    match parts.constant {
+        IMP => implied(table, parts.a, parts.b),
+        AND => Ok(Way::Both(Step::at_both(Rule::AndI, parts.a, parts.b))),
+        _ => Ok(Way::Leaf),
+    }
+}
+
+/// How a formula that begins with a constant at a function is proved.
+fn way_of_quantifier(table: &mut Table, constant: u32, function: Id) -> Made<Way> {
+    match constant {
+        ALL => quantified(table, Rule::AllI, EXP, function),
+        ALLM => quantified(table, Rule::AllmI, MEM, function),
+        _ => Ok(Way::Leaf),
     }
 }
 
@@ -55,8 +64,7 @@ fn way_of(table: &mut Table, formula: Id) -> Made<Way> {
         return Ok(Way::Leaf);
     };
     match node_of(table, head)? {
-        Node::Const(ALL) => quantified(table, Rule::AllI, EXP, function),
-        Node::Const(ALLM) => quantified(table, Rule::AllmI, MEM, function),
+        Node::Const(constant) => way_of_quantifier(table, constant, function),
         _ => way_of_pair(table, formula),
     }
 }
@@ -66,10 +74,10 @@ fn leaf(table: &mut Table, under: Under<'_>, formula: Id) -> Made<Sequent> {
     if !under.lemmas.is_empty() {
         return under.cited(table, 0, formula);
     }
-    match node_of(table, formula)? {
-        Node::Const(TT) => under.by(table, Step::at(Rule::TtI, formula)),
-        _ => relations::proved(table, under, formula),
+    if node_of(table, formula)? == Node::Const(TT) {
+        return under.by(table, Step::at(Rule::TtI, formula));
     }
+    relations::proved(table, under, formula)
 }
 
 /// The hypotheses and one more.

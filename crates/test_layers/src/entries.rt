@@ -14,10 +14,13 @@ pub fn field(number: u64) -> Made<u32> {
 }
 
 /// The number of an id among those that a walk left.
-pub fn number(walk: &Walk, id: Id) -> Made<u32> {
-    match walk.numbers.get(id.index()) {
-        Some(Some(place)) => field(*place),
-        _ => Err("an id that wasn't left"),
+fn number(walk: &Walk, id: Id) -> Made<u32> {
+    let Some(place) = walk.numbers.get(id.index()) else {
+        return Err("an unknown id");
+    };
+    match place {
+        Some(place) => field(*place),
+        None => Err("an id that wasn't left"),
     }
 }
 
@@ -47,12 +50,29 @@ fn put_entry(fields: &mut Vec<u32>, walk: &Walk, node: Node) -> Made<()> {
         Node::Calc(n, a, b) => put_triple(fields, 3, n, a, b),
         Node::Fact(n, a, b) => put_triple(fields, 4, n, a, b),
         Node::App(f, a) => {
-            made(fields.extend_from_slice(&[6, number(walk, f)?, number(walk, a)?]))
+            let f = number(walk, f)?;
+            let a = number(walk, a)?;
+            made(fields.extend_from_slice(&[6, f, a]))
         }
-        Node::Lam(body) => made(fields.extend_from_slice(&[7, number(walk, body)?])),
+        Node::Lam(body) => {
+            let body = number(walk, body)?;
+            made(fields.extend_from_slice(&[7, body]))
+        }
         Node::Lemma(n) => made(fields.extend_from_slice(&[8, n])),
         _ => Err("another node"),
     }
+}
+
+/// Adds the number of an entry.
+pub fn put_number(fields: &mut Vec<u32>, walk: &Walk, id: Id) -> Made<()> {
+    let number = number(walk, id)?;
+    made(fields.push(number))
+}
+
+/// Adds the proof's field: one more than its entry's number.
+pub fn put_proof(fields: &mut Vec<u32>, walk: &Walk, proof: Id) -> Made<()> {
+    let number = number(walk, proof)?;
+    made(fields.push(number.saturating_add(1)))
 }
 
 /// Adds the count and the fields of the entries that a walk left.

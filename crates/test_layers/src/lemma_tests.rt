@@ -8,7 +8,7 @@ ghost use Rattle.alpha_cfg.specs.Cuts.{AreFlags};
 use crate::accepted::{RETURN, container};
 use crate::answers::{Made, made};
 use crate::connectives;
-use crate::entries::{field, number, put_entries};
+use crate::entries::{field, put_entries, put_number, put_proof};
 use crate::nodes::known;
 use crate::rules::{Rule, Step, Under, are_proved, lemmas_known};
 use alpha_cfg::{Code, Cut};
@@ -59,12 +59,13 @@ fn fields_of(table: &Table, lemmas: &[(Id, Id)], proof: Id) -> Made<Vec<u32>> {
     let mut fields = Vec::new(alloc);
     made(fields.extend_from_slice(&[1, RETURN]))?;
     put_entries(&mut fields, table, &walk)?;
-    made(fields.extend_from_slice(&[0, field(lemmas.len() as u64)?]))?;
+    let count = field(lemmas.len() as u64)?;
+    made(fields.extend_from_slice(&[0, count]))?;
     for lemma in lemmas {
-        let (formula, term) = *lemma;
-        made(fields.extend_from_slice(&[number(&walk, formula)?, number(&walk, term)?]))?;
+        put_number(&mut fields, &walk, lemma.0)?;
+        put_number(&mut fields, &walk, lemma.1)?;
     }
-    made(fields.push(number(&walk, proof)?.saturating_add(1)))?;
+    put_proof(&mut fields, &walk, proof)?;
     Ok(fields)
 }
 
@@ -90,7 +91,8 @@ fn proved_return(alloc: Global, policy: &Policy) -> Made<Vec<u8>> {
     let cut = cut_code(alloc)?;
     let mut table = Table::new(alloc, Places::sigma3());
     let condition = made(vc(&mut table, &cut, policy, &[], None))?;
-    let lemmas = [truth(&mut table)?];
+    let lemma = truth(&mut table)?;
+    let lemmas = [lemma];
     let under = Under {
         lemmas: &lemmas,
         hyps: &[],

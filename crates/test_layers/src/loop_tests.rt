@@ -6,10 +6,10 @@ ghost use Rattle.proof_container.specs.Views.{contents_of};
 ghost use Rattle.pcc_gate.specs.Answers.{IsHeld};
 ghost use Rattle.pcc_gate.specs.Passing.{Passes};
 
-use crate::accepted::container;
+use crate::accepted::{FIVE_SEVEN, container};
 use crate::answers::{Made, made};
 use crate::connectives;
-use crate::entries::{number, put_entries};
+use crate::entries::{put_entries, put_number, put_proof};
 use crate::nodes::known;
 use crate::rules::Under;
 use pcc_gate::{Accepted, Passed, front, gate};
@@ -65,8 +65,9 @@ fn fields_of(table: &Table, inv: Id, proof: Id) -> Made<Vec<u32>> {
     let mut fields = Vec::new(alloc);
     made(fields.extend_from_slice(&CODE))?;
     put_entries(&mut fields, table, &walk)?;
-    made(fields.extend_from_slice(&[1, 1, number(&walk, inv)?]))?;
-    made(fields.push(number(&walk, proof)?.saturating_add(1)))?;
+    made(fields.extend_from_slice(&[1, 1]))?;
+    put_number(&mut fields, &walk, inv)?;
+    put_proof(&mut fields, &walk, proof)?;
     Ok(fields)
 }
 
@@ -99,17 +100,18 @@ fn proved_loop(alloc: Global, policy: &Policy) -> Made<Vec<u8>> {
     made(container(alloc, policy, 3, fields.as_slice()))
 }
 
-/// The quadwords 5 and 7.
-const FIVE_SEVEN: [u8; 16] = [5, 0, 0, 0, 0, 0, 0, 0, 7, 0, 0, 0, 0, 0, 0, 0];
+/// Whether the host returns within the bound, and leaves the packet as it was.
+fn returns(host: &mut Host) -> bool {
+    host.load(&FIVE_SEVEN) && host.run(41) == Ended::Returned(0) && host.sum() == 12
+}
 
-/// Whether a host of it returns within the bound, and leaves the packet as it was.
-fn returns(alloc: Global, accepted: Accepted) -> Made<bool> {
-    match Host::new(alloc, accepted) {
-        Ok(mut host) => {
-            Ok(host.load(&FIVE_SEVEN) && host.run(41) == Ended::Returned(0) && host.sum() == 12)
-        }
-        Err(_) => Err("no memory"),
-    }
+/// Whether a host of it does.
+fn is_run(alloc: Global, accepted: Accepted) -> Made<bool> {
+    let Ok(host) = Host::new(alloc, accepted) else {
+        return Err("no memory");
+    };
+    let mut host = host;
+    Ok(returns(&mut host))
 }
 
 /// A loop that counts a register down is accepted with the kit's proof, and returns.
@@ -119,6 +121,6 @@ fn a_counted_loop_is_accepted_with_the_kits_proof(rt: HostRuntime) -> Result<(),
     let bytes = proved_loop(rt.alloc(), &policy)?;
     let accepted = made(gate(rt.alloc(), &policy, &bytes))?;
     assert!(rt; accepted.bound() == Some(41));
-    assert!(rt; returns(rt.alloc(), accepted)?);
+    assert!(rt; is_run(rt.alloc(), accepted)?);
     Ok(())
 }

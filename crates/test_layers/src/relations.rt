@@ -107,14 +107,14 @@ fn tested_bound(table: &mut Table, under: Under<'_>) -> Made<Sequent> {
 
 /// That a term equals itself, or if it is an operator at two words what it gives.
 fn valued(table: &mut Table, under: Under<'_>, term: Id) -> Made<Sequent> {
-    let Ok(Pair { constant, a, b }) = pair_of(table, term) else {
+    let Ok(parts) = pair_of(table, term) else {
         return under.by(table, Step::at(Rule::EqRefl, term));
     };
-    let Some(op) = op_of_constant(constant) else {
+    let Some(op) = op_of_constant(parts.constant) else {
         return Err("no operator");
     };
-    let a = word_of(table, a)?;
-    let b = word_of(table, b)?;
+    let a = word_of(table, parts.a)?;
+    let b = word_of(table, parts.b)?;
     under.computed(table, op, a, b)
 }
 
@@ -154,23 +154,28 @@ fn as_sum(table: &mut Table, under: Under<'_>, term: Id, fuel: u32) -> Made<Sequ
     if fuel == 0 {
         return Err("a deep term");
     }
-    let Ok(Pair { a, b, .. }) = pair_of(table, term) else {
+    let Ok(parts) = pair_of(table, term) else {
         return valued(table, under, term);
     };
-    if word_of(table, a).is_ok() {
+    if word_of(table, parts.a).is_ok() {
         return valued(table, under, term);
     }
-    let s = as_sum(table, under, a, fuel - 1)?;
-    difference(table, under, a, b, &s)
+    let s = as_sum(table, under, parts.a, fuel - 1)?;
+    difference(table, under, parts.a, parts.b, &s)
+}
+
+/// The relation by what the loop's head says its right side is, if that says so.
+fn by_head(table: &mut Table, under: Under<'_>, s: Sequent) -> Made<Sequent> {
+    match head_equation(table, under) {
+        Ok(equation) => rewritten(table, under, Side::Right, &equation, &s),
+        Err(_) => Ok(s),
+    }
 }
 
 /// `(eq A B)`, if both are one sum by what the loop's head says.
 fn equal(table: &mut Table, under: Under<'_>, a: Id, b: Id) -> Made<Sequent> {
     let left = as_sum(table, under, a, LEVELS)?;
-    let left = match head_equation(table, under) {
-        Ok(equation) => rewritten(table, under, Side::Right, &equation, &left)?,
-        Err(_) => left,
-    };
+    let left = by_head(table, under, left)?;
     let right = as_sum(table, under, b, LEVELS)?;
     let right = turned(table, under, &right)?;
     rewritten(table, under, Side::Right, &right, &left)
@@ -228,14 +233,14 @@ fn least(table: &mut Table, under: Under<'_>, term: Id, fuel: u32) -> Made<Seque
     if word_of(table, term).is_ok() {
         return least_of_word(table, under, term);
     }
-    let Ok(Pair { a, b, .. }) = pair_of(table, term) else {
+    let Ok(parts) = pair_of(table, term) else {
         return least_of_variable(table, under, term);
     };
-    if word_of(table, a).is_ok() {
+    if word_of(table, parts.a).is_ok() {
         return least_of_word(table, under, term);
     }
-    let s = least(table, under, a, fuel - 1)?;
-    lowered(table, under, a, b, &s)
+    let s = least(table, under, parts.a, fuel - 1)?;
+    lowered(table, under, parts.a, parts.b, &s)
 }
 
 /// The relation of a word and a term, of which a rule makes it from that of two words.

@@ -318,7 +318,8 @@ fn are_placed(table: &Table, hyps: &[Id], step: Step) -> Made<()>
     all_known(table, hyps)?;
     known(table, step.a)?;
     known(table, step.b)?;
-    known(table, step.c)
+    known(table, step.c)?;
+    Ok(())
 }
 
 impl Under<'_> {
