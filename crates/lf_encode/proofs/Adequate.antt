@@ -19,7 +19,7 @@ use Rattle.word_ops.specs.Words.{test_of}
 use Rattle.lf_signature.specs.Rules.{rule_type}
 use Rattle.lf_signature.specs.Constants.{constant_types, the_rules, op_in, calc_type, fact_type, deny_type, declared}
 use Rattle.lf_signature.specs.declared.WordSignature.TheVariants.{Sigma3}
-use Rattle.lf_signature.specs.Known.{IsKnownSignature}
+use Rattle.lf_signature.specs.Known.{IsKnownType, listed, lemma, IsKnownSignature}
 use Rattle.lf_signature.specs.Laws.Within.{made_number, Found, made, ruled, declared-number}
 use Rattle.lf_signature.specs.Simply.{simply, erased}
 use Rattle.lf_signature.specs.Laws.Booleans.{both, every, every-at, cond_is}
@@ -202,6 +202,11 @@ module _ (sig : Const → Option Tree) where
       subst (λ z. OfR (erase z) G (Con (Deny r a b))) (some_injective h.1) tt
   const_known (Lemma n) A has q G = cc
 
+  -- a lemma is a proof
+  type_known : (c : Const) (A : Tree) → sig c ≡ Some A → IsKnownType c A → (G : List VarSort) → OfR (erase A) G (Con c)
+  type_known c A has (listed q) G = const_known c A has q G
+  type_known c A has (lemma l p) G = subst (λ z. OfR (erase z) G (Con c)) p.is tt
+
   var_known : (G H : List VarSort) (n m : ℕ) (s : Simple) → at (simple_sorts G) n ≡ Some s → ((v : VarSort) → sort_at G n ≡ Some v → sort_at H m ≡ Some v) → OfR s H (Var m)
   var_known [] H n m s q h = cc
   var_known (OfWord ∷ G) H zero m s q h = subst (λ z. OfR z H (Var m)) (some_injective q) (record { form = EVar m; over = h OfWord refl; uses = tt; is = refl })
@@ -227,7 +232,7 @@ module _ (sig : Const → Option Tree) where
       pub ssynth_known : {Δ : List Simple} {t : Tree} {s : Simple} → SSynth (simply sig) Δ t s → (G : List VarSort) → Δ ≡ simple_sorts G → OfR s G t
       ssynth_known (var_ssynth {n = n} {s = s} q) G e = var_known G G n n s (subst (λ z. at z n ≡ Some s) e q) (λ v h. h)
       ssynth_known (con_ssynth {c = c} {s = s} q) G e =
-          let p = map_some (sig c) erase s q in subst (λ z. OfR z G (Con c)) p.2 (const_known c p.0 p.1 (known.within c p.0 p.1) G)
+          let p = map_some (sig c) erase s q in subst (λ z. OfR z G (Con c)) p.2 (type_known c p.0 p.1 (known.within c p.0 p.1) G)
       ssynth_known (app_ssynth {m = a} d k) G e = ssynth_known d G e a (schecks_known k G e)
 
     -- adequacy, from the simple rules on

@@ -3,6 +3,7 @@ use Rattle.std.specs.Prelude.{ℕ, ◌<◌, Option, List, [], ◌∷◌, length,
 use Rattle.term_table.specs.Tree.{Tree, Const}
 use Rattle.term_table.specs.Table.{TableView, tree_at}
 use Rattle.lf_lemmas.specs.Lemmas.{formulas_of, HasNoLemmas, AreFormulas}
+use Rattle.lf_lemmas.specs.Checking.{LemmasCheck}
 
 -- the lemmas whose formulas and proofs the ids stand for
 abbrev pub lemmas_in : TableView → List (ℕ × ℕ) → List (Tree × Tree)
@@ -24,3 +25,9 @@ pub record HoldsLemmas (sig : Const → Option Tree) (t : TableView) (ids : List
   pub known : LemmasKnown t ids
   pub free : HasNoLemmas sig
   pub formulas : AreFormulas sig (formulas_of (lemmas_in t ids))
+
+-- besides, each lemma's proof checks with the lemmas before it
+pub record HoldsProvedLemmas (sig : Const → Option Tree) (t : TableView) (ids : List (ℕ × ℕ))
+    : Type 0 where
+  pub lemmas : HoldsLemmas sig t ids
+  pub proved : LemmasCheck sig (lemmas_in t ids)

@@ -7,8 +7,9 @@ ghost use Rattle.lf_signature.specs.Nodes.{type_at};
 ghost use Rattle.lf_lemmas.specs.Lemmas.{formulas_of, with_lemmas};
 ghost use Rattle.lf_lemmas.specs.Tables.{lemmas_in, HoldsLemmas};
 ghost use Rattle.lf_lemmas.specs.Laws.Lawful.{lemmas_same, lemmas_hold, lemmas_formed};
+ghost use Rattle.lf_lemmas.specs.Laws.Lawful.{lemmas_known_too};
 
-use lf_signature::{Signature, pf};
+use lf_signature::{Known, Signature, pf};
 use std::alloc::AllocError;
 use term_table::{Id, Node, Table};
 
@@ -64,4 +65,10 @@ impl<'a, S: Signature> Signature for WithLemmas<'a, S> {
             _ => self.sig.type_of(table, constant),
         }
     }
+}
+
+impl<'a, S: Known> Known for WithLemmas<'a, S> {
+    ghost known = { λ s t h.
+        lemmas_known_too (S.Signature.declares s.sig.now t) h.1.free
+        (formulas_of (lemmas_in t s.lemmas.now)) h.1.formulas (S.known s.sig.now t h.0) };
 }

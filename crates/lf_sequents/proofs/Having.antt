@@ -6,7 +6,7 @@ use Rattle.lf_signature.specs.Rules.{Rule, rule_type}
 use Rattle.lf_signature.specs.declared.WordSignature.TheVariants.{Sigma3}
 use Rattle.lf_signature.specs.Constants.{rule_at, declared}
 use Rattle.lf_signature.specs.Known.{IsKnownSignature}
-use Rattle.lf_signature.specs.Laws.Within.{declared-number}
+use Rattle.lf_signature.specs.Laws.Within.{declared-number, known-longest}
 use Rattle.lf_signature.proofs.Lookup.{declared-rule}
 use Rattle.lf_sequents.specs.declared.sequent.Sequent.{Sequent}
 use Rattle.lf_sequents.specs.Answers.{HasForm, IsRowAnswer, IsRuleAnswer, rule_in_signature}
@@ -14,7 +14,7 @@ use Rattle.lf_sequents.specs.Answers.{HasForm, IsRowAnswer, IsRuleAnswer, rule_i
 -- the type that a known signature gives a rule's number is the rule's
 pub has_rule : (sig : Const → Option Tree) → IsKnownSignature sig → (n : ℕ) (r : Rule) (a : Tree) → rule_at n ≡ Some r → sig (Num n) ≡ Some a → sig (Num n) ≡ Some (rule_type r)
 has_rule sig known n r a e h =
-    let d : declared Sigma3 (Num n) ≡ Some a = known.within (Num n) a h in
+    let d : declared Sigma3 (Num n) ≡ Some a = known-longest (Num n) a (λ l. l) (known.within (Num n) a h) in
     h ∙ sym d ∙ declared-rule Sigma3 n r (declared-number Sigma3 n a d).0 e
 
 -- and the rule is then one of the signature

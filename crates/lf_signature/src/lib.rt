@@ -73,10 +73,10 @@ pub trait Signature {
 }
 
 /// A signature with the formulas of word arithmetic, whose other constants are rules of word
-/// arithmetic.
+/// arithmetic and lemmas.
 pub trait Known: Signature {
-    // Words and the constants of formulas have their types, and each constant that has one has that
-    // of the longest signature of word arithmetic.
+    // Words and the constants of formulas have their types. Each constant that has one has that of
+    // the longest signature of word arithmetic, or is a lemma, a proof of a formula.
     ghost known: { (s : Self) (t : TableView) → Self.Signature.holds s t →
         IsKnownSignature (Self.Signature.declares s t) };
 }

@@ -24,10 +24,13 @@ use Rattle.lf_signature.specs.Laws.Booleans.{both, cond_is, every, every-at}
 use Rattle.lf_signature.proofs.Lookup.{rule_found, at_past}
 use Rattle.lf_signature.specs.declared.tables.Place.TheVariants.{Made, ByRule}
 use Rattle.lf_signature.specs.declared.WordSignature.TheVariants.{Sigma3}
-use Rattle.lf_signature.specs.Laws.Within.{Found, made, ruled, declared-number, declared-below}
+use Rattle.lf_signature.specs.Known.{IsLemma, IsProofType}
+use Rattle.lf_signature.specs.Laws.Within.{Found, made, ruled, declared-number, declared-below, declared_known}
 use Rattle.lf_encode.specs.Encoding.{form_encoding}
-use Rattle.lf_truth.specs.Validity.{IsSoundSignature, IsTrueType, IsGivenType, listed, valid, AreGivenTypes}
+use Rattle.lf_truth.specs.Validity.{IsSoundSignature, IsTrueType, IsBeyond, IsGivenType, listed, valid, proved, AreGivenTypes}
+use Rattle.lf_encode.proofs.Named.{form_encoded}
 use Rattle.lf_truth.specs.RuleTruth.{IsTrueRule}
+use Rattle.lf_truth.proofs.Closed.{encodes_closed}
 use Rattle.lf_truth.proofs.Values.{default, AnyValue}
 use Rattle.lf_truth.proofs.TypeMeaning.{Stable, word_value, memory_value, word_means, Means}
 use Rattle.lf_truth.proofs.Soundness.{Has, IsModel, proved_true}
@@ -185,8 +188,17 @@ place_of-past n h =
     ∙ ap (λ b. if b then ByRule (n - 27) else if nat_lt n 96 then Made (n - 61) else ByRule (n - 35)) (le-ltb n 88 (omega (arith, h)))
     ∙ ap (λ b. if b then Made (n - 61) else ByRule (n - 35)) (le-ltb n 96 h)
 
+-- a type of word arithmetic's own, or that of the proofs of a valid formula
+data IsModelled (c : Const) (type : Tree) : Type 0 where
+  own : declared Sigma3 c ≡ Some type → IsModelled c type
+  true_proof : IsBeyond c → IsTrueType type → IsModelled c type
+
+-- each type of the signature is such a type
+abbrev AreModelled : (Const → Option Tree) → Type 0
+AreModelled sig = (c : Const) (type : Tree) → sig c ≡ Some type → IsModelled c type
+
 -- over any signature whose types are those of word arithmetic, or of the proofs of valid formulas
-module _ (sig : Const → Option Tree) (given : AreGivenTypes sig) (R : Rights) (rights : IsRights R) where
+module _ (sig : Const → Option Tree) (given : AreModelled sig) (R : Rights) (rights : IsRights R) where
   -- a proof's value says nothing, and of it its type is true
   proof_true : (c : Const) (A : Tree) → of_type (sig c) ≡ meaning R sig c → sig c ≡ Some A →
       ((ρ : List AnyValue) → Means (meaning R sig) A (erase A) ρ (default (erase A))) → IsTrueOf R sig (meaning R sig c) A
@@ -218,21 +230,48 @@ module _ (sig : Const → Option Tree) (given : AreGivenTypes sig) (R : Rights) 
   past_value : (n : ℕ) → 105 ≤ n → of_type (sig (Num n)) ≡ meaning R sig (Num n)
   past_value n h = ap (value_of (values R) (of_type (sig (Num n)))) (sym (place_of-past n (omega (arith, h))))
 
-  given_true : (c : Const) (A : Tree) → sig c ≡ Some A → IsGivenType c A → IsTrueOf R sig (meaning R sig c) A
-  given_true c A q (listed e) = listed_true c A q e
-  given_true (Num n) A q (valid b t) = proof_true (Num n) A (past_value n b) q (valid_means A t)
-  given_true (Lit w) A q (valid b t) = absurd b
-  given_true (Calc o x y) A q (valid b t) = absurd b
-  given_true (Fact r x y) A q (valid b t) = absurd b
-  given_true (Deny r x y) A q (valid b t) = absurd b
-  given_true (Lemma n) A q (valid b t) = proof_true (Lemma n) A refl q (valid_means A t)
+  given_true : (c : Const) (A : Tree) → sig c ≡ Some A → IsModelled c A → IsTrueOf R sig (meaning R sig c) A
+  given_true c A q (own e) = listed_true c A q e
+  given_true (Num n) A q (true_proof b t) = proof_true (Num n) A (past_value n b) q (valid_means A t)
+  given_true (Lit w) A q (true_proof b t) = absurd b
+  given_true (Calc o x y) A q (true_proof b t) = absurd b
+  given_true (Fact r x y) A q (true_proof b t) = absurd b
+  given_true (Deny r x y) A q (true_proof b t) = absurd b
+  given_true (Lemma n) A q (true_proof b t) = proof_true (Lemma n) A refl q (valid_means A t)
 
-  pub given_model : IsModel sig (meaning R sig)
+  given_model : IsModel sig (meaning R sig)
   given_model c A q = given_true c A q (given c A q)
 
--- each lawful signature of word arithmetic, with proofs of valid formulas beside, is sound
+modelled_sound : (sig : Const → Option Tree) → IsSignature sig → AreModelled sig → IsSoundSignature sig
+modelled_sound sig lawful given = model_sound sig lawful (given_model sig given)
+
+lemma_beyond : (c : Const) → IsLemma c → IsBeyond c
+lemma_beyond (Lemma n) l = tt
+lemma_beyond (Num n) l = absurd l
+lemma_beyond (Lit w) l = absurd l
+lemma_beyond (Calc o x y) l = absurd l
+lemma_beyond (Fact r x y) l = absurd l
+lemma_beyond (Deny r x y) l = absurd l
+
+-- a formula that has a proof over a sound signature is valid
+proved_valid : (before : Const → Option Tree) → IsSoundSignature before → (proof A : Tree) → IsProofType A → Checks before [] proof A → IsTrueType A
+proved_valid before sound proof A p d =
+    let f = form_encoded (declared Sigma3) (declared_known Sigma3) [] p.formula p.formed in
+    let e = (encodes_closed f.0 p.formula).0 f.1 in
+    let is : pf (form_encoding f.0) ≡ A = ap pf e.is ∙ p.is in
+    record { formula = f.0; over = e.over; is = is; valid = sound f.0 proof e.over (subst (λ z. Checks before [] proof z) (sym is) d) }
+
+-- lemmas that are proved are valid: by induction on the lemmas that their proofs may cite
+modelled : {c : Const} {A : Tree} → IsGivenType c A → IsModelled c A
+modelled (listed e) = own e
+modelled (valid b t) = true_proof b t
+modelled (proved {c = c} {type = A} before proof l p lawful given d) =
+    let sound = modelled_sound before lawful (λ k a e. modelled (given k a e)) in
+    true_proof (lemma_beyond c l) (proved_valid before sound proof A p d)
+
+-- each lawful signature of word arithmetic, with proofs of valid or proved formulas beside, is sound
 pub given_sound : (sig : Const → Option Tree) → IsSignature sig → AreGivenTypes sig → IsSoundSignature sig
-given_sound sig lawful given = model_sound sig lawful (given_model sig given)
+given_sound sig lawful given = modelled_sound sig lawful (λ k a e. modelled (given k a e))
 
 -- ---- the rules, by their parameters
 

@@ -3,6 +3,8 @@ use Rattle.std.specs.Prelude.{◌≡◌, ◌≤◌, Option, Some, []}
 use Rattle.term_table.specs.Tree.{Tree, Const, Num, Lemma}
 use Rattle.lf_signature.specs.declared.WordSignature.TheVariants.{Sigma3}
 use Rattle.lf_signature.specs.Constants.{declared}
+use Rattle.lf_signature.specs.Order.{IsSignature}
+use Rattle.lf_signature.specs.Known.{IsLemma, IsProofType}
 use Rattle.lf_signature.specs.Typing.{Checks}
 use Rattle.lf_signature.specs.Terms.{pf}
 use Rattle.formula_tree.specs.Formulas.{Form}
@@ -33,11 +35,16 @@ IsBeyond (Num n) = 105 ≤ n
 IsBeyond (Lemma n) = Unit {0}
 IsBeyond _ = ⊥
 
--- a type of word arithmetic's own, or, of a constant past these or a lemma, that of the proofs of a
--- closed formula that is valid
-pub data IsGivenType (c : Const) (type : Tree) : Type 0 where
-  listed : declared Sigma3 c ≡ Some type → IsGivenType c type
-  valid : IsBeyond c → IsTrueType type → IsGivenType c type
+-- a type of word arithmetic's own; or, of a constant past these or a lemma, that of the proofs of a
+-- closed formula that is valid; or, of a lemma, that of the proofs of a formula that has a proof
+-- over a signature of such types
+pub data IsGivenType : Const → Tree → Type 0 where
+  listed : {c : Const} {type : Tree} → declared Sigma3 c ≡ Some type → IsGivenType c type
+  valid : {c : Const} {type : Tree} → IsBeyond c → IsTrueType type → IsGivenType c type
+  proved : {c : Const} {type : Tree} (before : Const → Option Tree) (proof : Tree) →
+      IsLemma c → IsProofType type → IsSignature before →
+      ((d : Const) (a : Tree) → before d ≡ Some a → IsGivenType d a) →
+      Checks before [] proof type → IsGivenType c type
 
 -- each type of the signature is such a type
 abbrev pub AreGivenTypes : (Const → Option Tree) → Type 0

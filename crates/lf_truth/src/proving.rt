@@ -9,8 +9,7 @@ ghost use Rattle.lf_check.specs.Kept.{AreKept};
 ghost use Rattle.formula_tree.specs.Formulas.{Form};
 ghost use Rattle.formula_tree.specs.Truth.{IsValid};
 ghost use Rattle.lf_truth.specs.Validity.{EncodesClosed, AreGivenTypes, listed};
-ghost use Rattle.lf_signature.specs.Known.{IsKnownSignature};
-ghost use Rattle.lf_signature.specs.Laws.Within.{declared_known};
+ghost use Rattle.lf_signature.specs.Laws.Within.{declared-longest};
 
 use crate::theorems::truth_laws;
 use lf_check::{Exhausted, Kept, MOST_RESULTS, check_term_with, synth_with};
@@ -22,13 +21,14 @@ use term_table::{Id, Node, Table};
 /// A signature of word arithmetic in which each further constant is a proof of a formula that is
 /// true in every structure.
 pub trait Truthful: Known {
-    // Each type is one of word arithmetic's, or that of the proofs of a valid formula.
+    // Each type is one of word arithmetic's, or that of the proofs of a valid formula, or of one
+    // that is proved over such types.
     ghost given: { (s : Self) (t : TableView) → Self.Signature.holds s t →
         AreGivenTypes (Self.Signature.declares s t) };
 }
 
 impl Truthful for WordSignature {
-    ghost given = { λ s t h c a e. listed (IsKnownSignature.within (declared_known s) c a e) };
+    ghost given = { λ s t h c a e. listed (declared-longest s c a e) };
 }
 
 /// Returns whether the term `proof` is a proof, over `sig`, of the formula that the term `goal`

@@ -14,7 +14,7 @@ use Rattle.lf_lemmas.specs.WrittenOut.{inlined, written_out}
 use Rattle.lf_signature.specs.Typing.{Checks}
 use Rattle.lf_signature.specs.Order.{IsSignature}
 use Rattle.lf_signature.specs.Laws.WellFormed.{declared_formed}
-use Rattle.lf_signature.specs.Laws.Within.{declared_known}
+use Rattle.lf_signature.specs.Laws.Within.{declared-longest}
 use Rattle.lf_encode.specs.Encoding.{form_encoding}
 use Rattle.lf_truth.specs.Validity.{IsSoundSignature, AreGivenTypes, listed}
 use Rattle.proof_container.specs.Contents.{Contents}
@@ -56,7 +56,7 @@ pub all-sound : ((sig : Const → Option Tree) → IsSignature sig → AreGivenT
     → IsSoundSignature sig)
     → AreSound
 all-sound sound s =
-    sound (declared s) (declared_formed s) (λ k a e. listed ((declared_known s).within k a e))
+    sound (declared s) (declared_formed s) (λ k a e. listed (declared-longest s k a e))
 
 module _ (sound : AreSound) (policy : PolicyView) (bytes : List ℕ) (contents : Contents)
     (code : List Insn) (marks : List Bool) (kept : IsPolicy policy)

@@ -12,6 +12,7 @@ use Rattle.word_ops.specs.Words.{test_of}
 use Rattle.lf_signature.specs.declared.WordSignature.TheVariants.{Sigma3}
 use Rattle.lf_signature.specs.Numbers.{rel_of}
 use Rattle.lf_signature.specs.Terms.{pf}
+use Rattle.lf_signature.specs.Known.{IsKnownType, listed, lemma}
 use Rattle.lf_signature.specs.Constants.{declared, op_in, is_word, calc_type, fact_type, deny_type}
 use Rattle.proof_kit.specs.Constants.{IsEvaluation}
 
@@ -20,7 +21,7 @@ guarded : (b : Bool) (g a : Tree) → cond b (Some (pf g)) None ≡ Some a → (
 guarded true g a e = (g, sym (some_injective e))
 guarded false g a e = cc
 
-pub evaluation_pf : (c : Const) (a : Tree) → IsEvaluation c → declared Sigma3 c ≡ Some a → (f : Tree) × (a ≡ pf f)
+evaluation_pf : (c : Const) (a : Tree) → IsEvaluation c → declared Sigma3 c ≡ Some a → (f : Tree) × (a ≡ pf f)
 evaluation_pf (Calc o x y) a h e = by_op (op_in Sigma3 o) e
   where
     by_op : (p : Option Op) → bind p (λ p. cond (is_word x && is_word y) (Some (calc_type p x y)) None) ≡ Some a → (f : Tree) × (a ≡ pf f)
@@ -39,6 +40,11 @@ evaluation_pf (Deny r x y) a h e = by_rel (rel_of r) e
 evaluation_pf (Num n) a h e = elim h [ ]
 evaluation_pf (Lit w) a h e = elim h [ ]
 evaluation_pf (Lemma n) a h e = elim h [ ]
+
+-- so is each known type of an evaluation
+pub known_pf : (c : Const) (a : Tree) → IsEvaluation c → IsKnownType c a → (f : Tree) × (a ≡ pf f)
+known_pf c a h (listed e) = evaluation_pf c a h e
+known_pf c a h (lemma l p) = (p.formula, sym p.is)
 
 pub goal_of : (p g f : Tree) → TApp p g ≡ pf f → pf f ≡ pf g
 goal_of p g f e = same e

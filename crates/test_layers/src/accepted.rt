@@ -75,7 +75,7 @@ fn shows(accepted: &Accepted, bound: Option<u32>) -> bool {
 }
 
 /// The quadwords 5 and 7.
-const FIVE_SEVEN: [u8; 16] = [5, 0, 0, 0, 0, 0, 0, 0, 7, 0, 0, 0, 0, 0, 0, 0];
+pub const FIVE_SEVEN: [u8; 16] = [5, 0, 0, 0, 0, 0, 0, 0, 7, 0, 0, 0, 0, 0, 0, 0];
 
 /// Whether the host keeps what was accepted, and sums up nothing.
 fn is_new(host: &Host) -> bool {

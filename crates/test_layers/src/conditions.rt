@@ -18,7 +18,7 @@ use policy_set::{Policy, PolicyKind};
 use std::alloc::Global;
 use std::test::Fail;
 use term_table::{Id, Node, Places, Table};
-use vcgen::{VcFault, condition_laws, encoding_laws, vc, worked_conditions};
+use vcgen::{VcFault, condition_laws, encoding_laws, left_laws, vc, worked_conditions};
 use word_ops::Profile;
 
 #[test]
@@ -30,6 +30,7 @@ fn laws() {
     put_laws();
     condition_laws();
     encoding_laws();
+    left_laws();
     worked_conditions();
     pcc_gate::laws();
 }

@@ -22,14 +22,14 @@ use Rattle.lf_signature.specs.Constants.{declared}
 use Rattle.lf_signature.specs.declared.WordSignature.{WordSignature}
 use Rattle.lf_signature.specs.declared.WordSignature.TheVariants.{Sigma3}
 use Rattle.lf_signature.specs.Laws.Restricted.{checks_more}
-use Rattle.lf_signature.specs.Laws.Within.{declared_known}
+use Rattle.lf_signature.specs.Laws.Within.{declared_known, declared-longest}
 
 -- what is a form over a signature is one over the longest
 pub forms-wider : (s : WordSignature) (bound : Option ℕ) (ps : List (ℕ × Tree))
     → AreForms s bound ps → AreForms Sigma3 bound ps
 forms-wider s bound [] h = tt
 forms-wider s bound (p ∷ ps) h =
-    (checks_more (declared s) (declared Sigma3) (declared_known s).within h.0, forms-wider s bound ps h.1)
+    (checks_more (declared s) (declared Sigma3) (declared-longest s) h.0, forms-wider s bound ps h.1)
 
 -- invariants that are forms have formulas
 formulas-of : (bound : Option ℕ) (ps : List (ℕ × Tree)) → AreForms Sigma3 bound ps

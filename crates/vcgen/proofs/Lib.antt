@@ -15,3 +15,4 @@ pub mod MachineRegs
 pub mod Walking
 pub mod Parts
 pub mod Used
+pub mod LeftPut

@@ -25,5 +25,5 @@ pub use condition::{MAX_HEIGHT, MAX_UNFOLDED, vc};
 pub use effects::{Effect, counted_step, effect_at};
 pub use fault::VcFault;
 pub use symbols::Symbols;
-pub use theorems::{condition_laws, encoding_laws, worked_conditions};
+pub use theorems::{condition_laws, encoding_laws, left_laws, worked_conditions};
 pub use walk::{Program, invariant};

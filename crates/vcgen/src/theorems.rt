@@ -1,6 +1,15 @@
 //! Theorems about verification conditions; their functions run nothing.
 
-ghost use Rattle.std.specs.Prelude.{◌≡◌, [], None, Some};
+ghost use Rattle.std.specs.Prelude.{◌≡◌, ◌<◌, ◌^◌, true, List, length, drop, [], None, Some};
+ghost use Rattle.term_table.specs.Subst.{Base, hsub};
+ghost use Rattle.lf_signature.specs.declared.numbers.TheConstants.{EXP};
+ghost use Rattle.formula_tree.specs.Formulas.{Exp, MemExp, Form};
+ghost use Rattle.formula_tree.specs.Sizes.{form_height};
+ghost use Rattle.formula_tree.specs.Substitution.{subst_exp, subst_mem, subst_form};
+ghost use Rattle.lf_encode.specs.declared.contexts.Sort.{Sort};
+ghost use Rattle.lf_encode.specs.Contexts.{has_left, IsExpIn, IsMemIn, IsFormIn};
+ghost use Rattle.lf_encode.specs.Contexts.{exp_encoding_in, mem_encoding_in, encoding_in};
+ghost use Rattle.vcgen.specs.Assignments.{for_left};
 ghost use Rattle.policy_set.specs.declared.kind.PolicyKind.TheVariants.{Filter, Tag, Table};
 ghost use Rattle.policy_set.specs.Views.{built_in};
 ghost use Rattle.vcgen.specs.Conditions.{condition};
@@ -72,4 +81,31 @@ pub fn worked_conditions()
         ≡ bounded_zero }
     ensures bounded_access { condition (annotated (built_in Tag) (Some 3) tagging tagging_invs)
         ≡ bounded_access }
+{}
+
+/// States that, over a context of `left`, m, r0 to r30 and bound variables, hereditary substitution
+/// for the variable of `left` is substitution for `left`. What is put for it is an expression over
+/// the context without `left`: it may name m, registers and bound variables. The result is encoded
+/// over that context, whose furthest variables are m and r0 to r30. For formulas, the height and the
+/// context's length have to be below 2^31.
+///
+/// `substitution_in_contexts` of lf_encode says it of bound variables, and of any variable for parts
+/// over variables alone.
+pub fn left_laws()
+    ensures exps { (ctx : List Sort) (e put : Exp) →
+        let rest : List Sort = drop 1 ctx in
+        has_left ctx ≡ true → IsExpIn ctx 32 e →
+        hsub (Base EXP) (exp_encoding_in rest put) (length rest) (exp_encoding_in ctx e)
+        ≡ Some (exp_encoding_in rest (subst_exp e (for_left put))) }
+    ensures mems { (ctx : List Sort) (m : MemExp) (put : Exp) →
+        let rest : List Sort = drop 1 ctx in
+        has_left ctx ≡ true → IsMemIn ctx 32 m →
+        hsub (Base EXP) (exp_encoding_in rest put) (length rest) (mem_encoding_in ctx m)
+        ≡ Some (mem_encoding_in rest (subst_mem m (for_left put))) }
+    ensures forms { (ctx : List Sort) (F : Form) (put : Exp) →
+        let rest : List Sort = drop 1 ctx in
+        has_left ctx ≡ true → IsFormIn ctx 32 F → IsExpIn rest 32 put →
+        form_height F < 2 ^ 31 → length ctx < 2 ^ 31 →
+        hsub (Base EXP) (exp_encoding_in rest put) (length rest) (encoding_in ctx F)
+        ≡ Some (encoding_in rest (subst_form F (for_left put))) }
 {}

@@ -13,7 +13,7 @@ use Rattle.lf_signature.specs.declared.tables.Place.TheVariants.{Made, ByRule}
 use Rattle.lf_signature.specs.Terms.{exp}
 use Rattle.lf_signature.specs.Rules.{Rule, rule_type}
 use Rattle.lf_signature.specs.Constants.{constant_types, the_rules, place_of, type_in, rule_at, size_of, op_count_of, op_in, is_word, calc_type, declared}
-use Rattle.lf_signature.specs.Known.{IsKnownSignature, HasOp}
+use Rattle.lf_signature.specs.Known.{IsLemma, IsKnownType, listed, lemma, IsKnownSignature, HasOp}
 use Rattle.lf_signature.specs.Laws.Booleans.{cond_is, both}
 use Rattle.word_ops.specs.declared.Profile.TheVariants.{One}
 
@@ -102,13 +102,22 @@ least Sigma1 = (omega arith, omega arith, omega arith)
 least Sigma2 = (omega arith, omega arith, omega arith)
 least Sigma3 = (omega arith, omega arith, omega arith)
 
+-- the longest signature has what each has
+pub declared-longest : (s : WordSignature) (c : Const) (a : Tree) → declared s c ≡ Some a → declared Sigma3 c ≡ Some a
+declared-longest s = declared-more s Sigma3 (omega (arith, (least s).1)) (omega (arith, (least s).2))
+
 -- each signature of word arithmetic is known
 pub declared_known : (s : WordSignature) → IsKnownSignature (declared s)
 declared_known s = record {
   words = λ w. refl;
   basic = λ n h. declared-below s n (omega (arith, h, (least s).0)) ∙ sym (declared-below Sigma1 n (omega (arith, h)));
-  within = declared-more s Sigma3 (omega (arith, (least s).1)) (omega (arith, (least s).2));
+  within = λ c a e. listed (declared-longest s c a e);
 }
+
+-- a known type of a constant that is no lemma is that of the longest signature
+pub known-longest : (c : Const) (a : Tree) → (IsLemma c → ⊥) → IsKnownType c a → declared Sigma3 c ≡ Some a
+known-longest c a none (listed e) = e
+known-longest c a none (lemma l p) = absurd (none l)
 
 -- an operator's number and its constant
 pub data IsNumbered (o : Op) : Type 0 where

@@ -1,0 +1,33 @@
+use Rattle.std.proofs.Common.{◌≡◌, ℕ, List, length, map, sym, ◌∙◌, ap, subst}
+use Rattle.alpha_cfg.specs.Cuts.{AreFlags}
+use Rattle.term_table.specs.Table.{id_trees}
+use Rattle.lf_signature.specs.declared.WordSignature.TheVariants.{Sigma3}
+use Rattle.proof_container.specs.Versions.{signature_of}
+use Rattle.vcgen.specs.Answers.{AreLowInvs}
+use Rattle.vcgen.specs.Encoded.{AreForms}
+use Rattle.vcgen.proofs.Encodings.{forms-wider}
+use Rattle.pcc_gate.proofs.Refusing.{keys}
+use Rattle.pcc_gate.proofs.Stages.{low-invs}
+use Rattle.test_layers.proofs.loop_tests.proved_fields.Goals as goal
+
+pub vc-requires-clause-invs : goal.vc-requires-clause-invs
+vc-requires-clause-invs c =
+    let k = c.args.passed.container in
+    subst (λ l. AreLowInvs k.table l) (sym c.deref.ensures.value)
+    (low-invs k.table k.invs.items _ c.requires.held.known.0 c.requires.passes.heights)
+
+pub vc-requires-clause-forms : goal.vc-requires-clause-forms
+vc-requires-clause-forms c =
+    let k = c.args.passed.container in
+    subst (λ l. AreForms Sigma3 k.bound (id_trees k.table l)) (sym c.deref.ensures.value)
+    (forms-wider (signature_of k.version) k.bound (id_trees k.table k.invs.items)
+    c.requires.passes.forms)
+
+pub vc-requires-clause-marks : goal.vc-requires-clause-marks
+vc-requires-clause-marks c =
+    let k = c.args.passed.container in
+    let cut = c.args.passed.cut in
+    let same : map (λ p. p.0) (id_trees k.table k.invs.items) ≡ map (λ p. p.0) c.deref.result.now =
+    keys k.table k.invs.items
+    ∙ ap (λ (l : List (ℕ × ℕ)). map (λ (p : ℕ × ℕ). p.0) l) (sym c.deref.ensures.value) in
+    subst (λ l. AreFlags l (length cut.code) cut.marks) same c.requires.passes.annotated
