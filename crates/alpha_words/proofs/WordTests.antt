@@ -1,12 +1,13 @@
 -- What a word reads as speaks of its tests: an instruction where all pass, else the first that fails.
-use Rattle.std.proofs.Common.{◌≡◌, ◌≢◌, ◌↔◌, ◌⊎◌, inl, inr, ℕ, ◌+◌, ◌*◌, ◌/◌, ◌%◌, ◌^◌, ◌<◌, ◌≤◌, true, false, cond, not, leb, ltb, eqb, ◌&&◌, ◌||◌, arith, refl, ◌∙◌, sym, ap, subst, Bool, Option, Some, None, Result, Ok, Err}
+use Rattle.std.proofs.Common.{◌≡◌, ◌≢◌, ◌↔◌, ◌⊎◌, inl, inr, ℕ, ◌+◌, ◌*◌, ◌/◌, ◌%◌, ◌^◌, ◌<◌, ◌≤◌, true, false, cond, not, leb, ltb, eqb}
+use Rattle.std.proofs.Common.{◌&&◌, ◌||◌, arith, refl, ◌∙◌, sym, ap, subst, Bool, Option, Some, None, Result, Ok, Err}
 use Rattle.std.proofs.lemmas.Bool.{true≢false, cond_both, eqb-true, eqb-false, ne_eqb, and_parts, not-true}
 use Rattle.std.proofs.lemmas.Bool.Decides.{nat_tests}
 use Rattle.std.proofs.lemmas.Option.{same_Some}
 use Rattle.word_ops.specs.declared.Op.{Op}
 use Rattle.word_ops.specs.declared.Profile.{Profile}
 use Rattle.word_ops.specs.Operators.{op_opcode, op_function, op_of_code, has_op, of_profile}
-use Rattle.word_ops.specs.Tests.{Test, test, AllPass, FirstFails, Answers, AreSharp}
+use Rattle.word_ops.specs.Tests.{AllPass, FirstFails, Answers, AreSharp}
 use Rattle.word_ops.proofs.EachOp.{op_of_code-op_code}
 use Rattle.word_ops.proofs.Tests.{test-sharp, flaw-exactly, value-exactly}
 use Rattle.alpha_words.specs.declared.insn.Cond.{Cond}
@@ -22,8 +23,10 @@ use Rattle.alpha_words.specs.Opcodes.{cond_opcode_of, cond_at}
 use Rattle.alpha_words.specs.MemoryOps.{memory_opcode, memory_kind, has_memory_op, memory_op_at, memory_op_of}
 use Rattle.alpha_words.specs.Formats.{memory_insn}
 use Rattle.alpha_words.specs.Encoding.{is_kept, Encodes}
-use Rattle.alpha_words.specs.Decoding.{signed_of, reg_at, unless_kept, unless_refused, decoded_memory, rhs_at, has_reserved, decoded_operate, decoded_branch, is_return, decoded_other, decoded_by, decoded}
-use Rattle.alpha_words.specs.WordTests.{opcode_field, ra_field, rc_field, IsMemoryWord, IsOperateWord, HasOpcode, memory, operate, jump, link, branch, HasFunction, HasZeros, Writes, first, last, HasReturn, word_tests, IsBadWord}
+use Rattle.alpha_words.specs.Decoding.{signed_of, reg_at, unless_kept, unless_refused, decoded_memory, rhs_at, has_reserved}
+use Rattle.alpha_words.specs.Decoding.{decoded_operate, decoded_branch, is_return, decoded_other, decoded_by, decoded}
+use Rattle.alpha_words.specs.WordTests.{opcode_field, ra_field, rc_field, IsMemoryWord, IsOperateWord, HasOpcode, memory, operate, jump}
+use Rattle.alpha_words.specs.WordTests.{link, branch, HasFunction, HasZeros, WritesRegister, first, last, HasReturn, word_tests, IsBadWord}
 use Rattle.alpha_words.proofs.EachMemoryOp.{each_memory_op, memory_op_at-memory_opcode}
 use Rattle.alpha_words.proofs.Words.{IsOperator, operator_sound, IsCond, cond_sound, IsMemoryOp, memory_kept, decoded-Encodes}
 
@@ -83,15 +86,18 @@ module _ (p : Profile) (w : ℕ) where
     no_operate : IsOperateWord w → ⊥
     no_operate h = apart_here.0 h.0 h.1
 
+    vacuous : {A : Type 0} → IsOperateWord w → A
+    vacuous h = absurd (no_operate h)
+
     abbrev NoLoadToZero : Type 0
     NoLoadToZero = (o : MemoryOp) → IsMemoryWord p w o → memory_kind o ≡ Load → ra_field w ≢ 31
 
     abbrev Unkept : Type 0
-    Unkept = (r : ℕ) → Writes p w r → is_kept r ≡ false
+    Unkept = (r : ℕ) → WritesRegister p w r → is_kept r ≡ false
 
     passing : NoLoadToZero → Unkept → AllPass (word_tests p w)
     passing zero kept =
-        (memory op is, (λ h. absurd (no_operate h), (λ h. absurd (no_operate h), (zero, (kept, (λ e. absurd (apart_here.1 e), (λ e. absurd (apart_here.2 e), tt)))))))
+        (memory op is, (vacuous, (vacuous, (zero, (kept, (λ e. absurd (apart_here.1 e), (λ e. absurd (apart_here.2 e), tt)))))))
 
     failing_kept : NoLoadToZero → (Unkept → ⊥) → FirstFails (word_tests p w) KeptRegister
     failing_kept zero kept =
@@ -144,7 +150,7 @@ module _ (p : Profile) (w : ℕ) where
       same_rc : rc_field w ≡ reg_at w 0
       same_rc = omega arith
 
-      writes : is_kept (reg_at w 0) ≡ false → (r : ℕ) → Writes p w r → is_kept r ≡ false
+      writes : is_kept (reg_at w 0) ≡ false → (r : ℕ) → WritesRegister p w r → is_kept r ≡ false
       writes e r (first op h s) = absurd (none op h)
       writes e r (last h) = ap is_kept same_rc ∙ e
 
@@ -194,7 +200,7 @@ module _ (p : Profile) (w : ℕ) where
 
     -- the branch format and returns
     module _ (no_operate : IsOperateWord w → ⊥) where
-      no_writes : (r : ℕ) → Writes p w r → is_kept r ≡ false
+      no_writes : (r : ℕ) → WritesRegister p w r → is_kept r ≡ false
       no_writes r (first op h s) = absurd (none op h)
       no_writes r (last h) = absurd (no_operate h)
 
@@ -255,7 +261,8 @@ module _ (p : Profile) (w : ℕ) where
             ),
           ))
 
-      branching : (c : Option Cond) → cond_at (opcode_field w) ≡ c → IsCond (opcode_field w) c → opcode_field w ≢ 0x1A → opcode_field w ≢ 0x30 → Speaks (decoded_branch w c)
+      branching : (c : Option Cond) → cond_at (opcode_field w) ≡ c → IsCond (opcode_field w) c → opcode_field w ≢ 0x1A → opcode_field w ≢ 0x30
+          → Speaks (decoded_branch w c)
       branching None e h j l = inl (no_opcode, refl)
         where
           no_opcode : HasOpcode p w → ⊥

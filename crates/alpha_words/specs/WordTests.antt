@@ -4,7 +4,7 @@ use Rattle.std.specs.Prelude.{◌≡◌, ◌≢◌, ◌≤◌, ℕ, ◌/◌, ◌
 use Rattle.word_ops.specs.declared.Op.{Op}
 use Rattle.word_ops.specs.declared.Profile.{Profile}
 use Rattle.word_ops.specs.Operators.{op_opcode, op_function, has_op}
-use Rattle.word_ops.specs.Tests.{Test, test, FirstFails}
+use Rattle.word_ops.specs.Tests.{TestFor, test, FirstFails}
 use Rattle.alpha_words.specs.declared.insn.Cond.{Cond}
 use Rattle.alpha_words.specs.declared.memory.MemoryOp.{MemoryOp}
 use Rattle.alpha_words.specs.declared.memory.MemoryKind.TheVariants.{Load, Store}
@@ -55,22 +55,22 @@ abbrev pub HasZeros : ℕ → Type 0
 HasZeros w = w / 2 ^ 12 % 2 ≡ 0 → w / 2 ^ 13 % 8 ≡ 0
 
 -- the word writes the register
-pub data Writes (p : Profile) (w : ℕ) : ℕ → Type 0 where
-  first : (op : MemoryOp) → IsMemoryWord p w op → memory_kind op ≢ Store → Writes p w (ra_field w)
-  last : IsOperateWord w → Writes p w (rc_field w)
+pub data WritesRegister (p : Profile) (w : ℕ) : ℕ → Type 0 where
+  first : (op : MemoryOp) → IsMemoryWord p w op → memory_kind op ≢ Store → WritesRegister p w (ra_field w)
+  last : IsOperateWord w → WritesRegister p w (rc_field w)
 
 -- registers 31 and 26, and 2 in bits 15:14, which a hint follows
 abbrev pub HasReturn : ℕ → Type 0
 HasReturn w = (ra_field w ≡ 31) × (rb_field w ≡ 26) × (w / 2 ^ 14 % 4 ≡ 2)
 
 -- the tests of a word, in their order
-abbrev pub word_tests : Profile → ℕ → List (Test BadWord)
+abbrev pub word_tests : Profile → ℕ → List (TestFor BadWord)
 word_tests p w =
     test (HasOpcode p w) Opcode
     ∷ test (IsOperateWord w → HasFunction p w) Function
     ∷ test (IsOperateWord w → HasZeros w) Reserved
     ∷ test ((op : MemoryOp) → IsMemoryWord p w op → memory_kind op ≡ Load → ra_field w ≢ 31) LoadToZero
-    ∷ test ((r : ℕ) → Writes p w r → is_kept r ≡ false) KeptRegister
+    ∷ test ((r : ℕ) → WritesRegister p w r → is_kept r ≡ false) KeptRegister
     ∷ test (opcode_field w ≡ 0x1A → HasReturn w) BadReturn
     ∷ test (opcode_field w ≡ 0x30 → ra_field w ≡ 31) BadLink
     ∷ []

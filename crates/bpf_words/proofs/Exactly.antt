@@ -1,5 +1,6 @@
 -- What is a program is read, and what has a flaw is read as it.
-use Rattle.std.proofs.Common.{◌≡◌, ◌⊎◌, inl, inr, ℕ, zero, suc, ◌+◌, ◌-◌, ◌*◌, ◌/◌, ◌%◌, ◌<◌, ◌≤◌, Bool, true, false, eqb, ◌||◌, List, [], ◌∷◌, length, slice_get, get_or, Option, Some, None, Ok, Err, refl, sym, ap, ◌∙◌, subst, arith}
+use Rattle.std.proofs.Common.{◌≡◌, ◌⊎◌, inl, inr, ℕ, zero, suc, ◌+◌, ◌-◌, ◌*◌, ◌/◌, ◌%◌, ◌<◌, ◌≤◌, Bool, true, false, eqb, ◌||◌, List, []}
+use Rattle.std.proofs.Common.{◌∷◌, length, slice_get, get_or, Option, Some, None, Ok, Err, refl, sym, ap, ◌∙◌, subst, arith}
 use Rattle.std.specs.Prelude.{not, nat_lt, nat_le}
 use Rattle.std.proofs.lemmas.Bool.{le-ltb, lt-ltb, lt-leb, le-leb, eq-eqb, ne_eqb, or_from, or_left, or_right, cases_lt}
 use Rattle.std.proofs.lemmas.Option.{slice_get-get_or, same_Some}
@@ -10,7 +11,8 @@ use Rattle.bpf_words.specs.declared.insn.BpfOp.TheVariants as ops
 use Rattle.bpf_words.specs.declared.fault.BpfFlaw.{BpfFlaw}
 use Rattle.bpf_words.specs.declared.fault.BpfFlaw.TheVariants as flaws
 use Rattle.bpf_words.specs.Programs.{bpf_op, IsInBounds, IsRet, IsProgram}
-use Rattle.bpf_words.specs.Reading.{insn_at, bpf_insns_from, insns_of, flaw_if, op_flaw, code_flaw, insn_flaw, else_flaw, flaw_from, returns, return_flaw, first_flaw, size_flaw, unless_flaw, program_of, HasInsns}
+use Rattle.bpf_words.specs.Reading.{insn_at, bpf_insns_from, insns_of, flaw_if, op_flaw, code_flaw, insn_flaw, else_flaw, flaw_from}
+use Rattle.bpf_words.specs.Reading.{returns, return_flaw, first_flaw, size_flaw, unless_flaw, program_of, HasInsns}
 use Rattle.bpf_words.proofs.Effects.{no_insn}
 use Rattle.bpf_words.specs.Flaws.{LeavesBounds, IsFine, HasFlaw, IsFirstAt, MeansFlaw}
 
@@ -237,7 +239,9 @@ module _ (bytes : List ℕ) where
       either (inr other) = or_right _ _ (ap not (ne_eqb (n % 8) 0 other))
 
       size : size_flaw (length bytes) ≡ Some (flaws.Size n)
-      size = ap size_flaw (sym is) ∙ ap (λ o. else_flaw o (flaw_if (nat_lt MAX_PROGRAM (n / 8)) (flaws.Count (n / 8)))) (flaw_if-true _ (flaws.Size n) (either bad))
+      size =
+          ap size_flaw (sym is)
+          ∙ ap (λ o. else_flaw o (flaw_if (nat_lt MAX_PROGRAM (n / 8)) (flaws.Count (n / 8)))) (flaw_if-true _ (flaws.Size n) (either bad))
   program_of-told (flaws.Count n) (whole, many) = ap (λ o. unless_flaw (insns_of bytes) (else_flaw o (first_flaw (insns_of bytes)))) size
     where
       size : size_flaw (length bytes) ≡ Some (flaws.Count n)

@@ -157,7 +157,8 @@ code_decided p bytes whole some short =
     elim (words_decided p bytes (length bytes / 4)) [
       | inr b ↦
           let inside : 4 * b.at + 4 ≤ length bytes = omega (arith, b.within, whole) in
-          inr (record { which = flaw.BadWord b.at (code_word_at bytes b.at) b.bad; is = (refl, (decoded-flaw p _ b.bad).0 b.read, inside, (b.front.insns, b.front.first)) })
+          let bad = (decoded-flaw p (code_word_at bytes b.at) b.bad).0 b.read in
+          inr (record { which = flaw.BadWord b.at (code_word_at bytes b.at) b.bad; is = (refl, bad, inside, (b.front.insns, b.front.first)) })
       | inl f ↦
           let count : length f.insns ≡ length bytes / 4 = f.first.count in
           let all : 4 * length f.insns ≡ length bytes = ap (λ n. 4 * n) count ∙ whole in
