@@ -8,6 +8,7 @@ use Rattle.alpha_words.specs.Encoding.{Encodes}
 use Rattle.alpha_words.specs.Decoding.{decoded}
 use Rattle.alpha_words.specs.Lawful.{target_of}
 use Rattle.alpha_words.proofs.Words.{decoded-Encodes}
+use Rattle.alpha_words.proofs.WordTests.{decoded-flaw}
 use Rattle.std.proofs.lemmas.Option.{same_Some}
 use Rattle.alpha_cfg.specs.declared.fault.CodeFlaw.{CodeFlaw}
 use Rattle.alpha_cfg.specs.declared.fault.CodeFlaw.TheVariants as flaw
@@ -173,7 +174,7 @@ module _ (p : Profile) where
       rw (count, found, at, ← is) refl
 
   decoded_code-flaw : (bytes : List ℕ) (f : CodeFlaw) → IsFlaw p bytes f → Err f ≡ decoded_code p bytes
-  decoded_code-flaw bytes (flaw.BadWord i word bad) h = decoded_code-bad bytes h.3.0 i word bad h.0 h.1 h.2 h.3.1
+  decoded_code-flaw bytes (flaw.BadWord i word bad) h = decoded_code-bad bytes h.3.0 i word bad h.0 ((decoded-flaw p word bad).1 h.1) h.2 h.3.1
   decoded_code-flaw bytes (flaw.Target i) h = decoded_code-target bytes h.0 i h.1 h.2
   decoded_code-flaw bytes (flaw.FallsOff i) h = decoded_code-falls_off bytes h.0 i h.1 h.2
 

@@ -54,7 +54,7 @@ written r e = not_from_false (is_kept r) e
 pick : {A : Type 0} (P : A → Type 0) (n m : ℕ) (x y : A) → (n ≡ m → P x) → P y → P (cond (eqb n m) x y)
 pick P n m x y h k = cond_both (eqb n m) x y P (λ e. h (eqb-true n m e)) (λ _. k)
 
-abbrev IsOperator : Profile → ℕ → ℕ → Option Op → Type 0
+abbrev pub IsOperator : Profile → ℕ → ℕ → Option Op → Type 0
 IsOperator p o f r = IfSome r (λ op. (has_op p op ≡ true) × (op_opcode op ≡ o) × (op_function op ≡ f))
 
 operator_kept : (p : Profile) (o f : ℕ) (r : Option Op) → op_of_code o f ≡ r → IsOperator p o f (of_profile p r)
@@ -62,7 +62,7 @@ operator_kept p o f None e = tt
 operator_kept p o f (Some op) e =
     cond_both (has_op p op) _ _ (IsOperator p o f) (λ h. let code = op_code_is o f op e in (h, code.0, code.1)) (λ _. tt)
 
-operator_sound : (p : Profile) (o f : ℕ) → IsOperator p o f (of_profile p (op_of_code o f))
+pub operator_sound : (p : Profile) (o f : ℕ) → IsOperator p o f (of_profile p (op_of_code o f))
 operator_sound p o f = operator_kept p o f (op_of_code o f) refl
 
 -- an operator that the profile has, or none
@@ -72,14 +72,14 @@ had b op = if b then Some op else None
 operator_complete : (p : Profile) (op : Op) → of_profile p (op_of_code (op_opcode op) (op_function op)) ≡ had (has_op p op) op
 operator_complete p op = ap (of_profile p) (op_of_code-op_code op)
 
-abbrev IsCond : ℕ → Option Cond → Type 0
+abbrev pub IsCond : ℕ → Option Cond → Type 0
 IsCond o r = IfSome r (λ c. cond_opcode_of c ≡ o)
 
 found_cond : (o : ℕ) (cs : List Cond) → IsCond o (find (λ c. eqb (cond_opcode_of c) o) cs)
 found_cond o [] = tt
 found_cond o (c ∷ cs) = cond_both (eqb (cond_opcode_of c) o) _ _ (IsCond o) (λ e. eqb-true (cond_opcode_of c) o e) (λ _. found_cond o cs)
 
-cond_sound : (o : ℕ) → IsCond o (cond_at o)
+pub cond_sound : (o : ℕ) → IsCond o (cond_at o)
 cond_sound o = found_cond o conditions
 
 -- an instruction of the memory format, by what it does with its first register
@@ -148,10 +148,10 @@ other_sound p w =
     (branch_sound p w)))
 
 -- what is found of the memory format has the opcode, and the profile has it
-abbrev IsMemoryOp : Profile → ℕ → Option MemoryOp → Type 0
+abbrev pub IsMemoryOp : Profile → ℕ → Option MemoryOp → Type 0
 IsMemoryOp p o r = IfSome r (λ op. (has_memory_op p op ≡ true) × (o ≡ memory_opcode op))
 
-memory_kept : (p : Profile) (o : ℕ) (r : Option MemoryOp) → memory_op_at o ≡ r → IsMemoryOp p o (memory_op_of p r)
+pub memory_kept : (p : Profile) (o : ℕ) (r : Option MemoryOp) → memory_op_at o ≡ r → IsMemoryOp p o (memory_op_of p r)
 memory_kept p o None e = tt
 memory_kept p o (Some op) e = cond_both (has_memory_op p op) _ _ (IsMemoryOp p o) (λ h. (h, sym (memory_opcode_is o op e))) (λ _. tt)
 

@@ -1,8 +1,10 @@
 //! Decoding of 32-bit words as instructions.
 
-ghost use Rattle.std.specs.Prelude.{◌≡◌, ◌+◌, ◌/◌, ◌%◌, ◌^◌, ◌≤◌, ◌<◌, ◌↔◌, IfOk, None};
+ghost use Rattle.std.specs.Prelude.{◌≡◌, ◌+◌, ◌/◌, ◌%◌, ◌^◌, ◌≤◌, ◌<◌, ◌↔◌, IfOk, None, Err};
 ghost use Rattle.alpha_words.specs.Lawful.{fault_of, HasFormat};
+ghost use Rattle.alpha_words.specs.WordTests.{IsBadWord};
 ghost use Rattle.alpha_words.specs.declared.insn.Insn.{Insn};
+ghost use Rattle.alpha_words.specs.declared.fault.BadWord as bad_word;
 ghost use Rattle.word_ops.specs.Operators.{op_of_code, of_profile};
 ghost use Rattle.alpha_words.specs.Opcodes.{cond_at};
 ghost use Rattle.alpha_words.specs.Decoding as decoding;
@@ -174,6 +176,7 @@ fn read(profile: Profile, word: u32) -> Result<Insn, BadWord>
 /// for the jump opcode a form other than the return's; for `br` a first register other than 31.
 pub fn decode(word: u32, profile: Profile) -> Result<Insn, BadWord>
     ensures decodes { (i : Insn) → (result ≡ Ok i) ↔ encoding.Encodes profile word i }
+    ensures refuses { (bad : bad_word.BadWord) → (result ≡ Err bad) ↔ IsBadWord profile word bad }
     ensures exact { result ≡ decoding.decoded profile word }
     ensures lawful { IfOk result (λ i. (fault_of profile i ≡ None) × HasFormat i) }
 {

@@ -1,4 +1,5 @@
 pub mod Effects
+pub mod Exactly
 pub mod Insns
 pub mod Meanings
 pub mod Soundness

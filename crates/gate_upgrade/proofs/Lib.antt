@@ -3,3 +3,4 @@ pub mod Exactly
 pub mod Acceptance
 pub mod Profiles
 pub mod Weights
+pub mod UpgradeFlaws

@@ -1,3 +1,4 @@
 pub mod Upgrading
 pub mod Upgrades
+pub mod UpgradeTests
 pub mod Laws

@@ -1,6 +1,6 @@
 //! Theorems about upgraded containers; their functions run nothing.
 
-ghost use Rattle.gate_upgrade.specs.Laws.{UpgradedExactly, UpgradedAccepted};
+ghost use Rattle.gate_upgrade.specs.Laws.{UpgradedExactly, UpgradeRefused, UpgradedAccepted};
 ghost use Rattle.std.specs.Prelude.{◌≡◌, ◌≤◌, ℕ, List, Ok};
 ghost use Rattle.word_ops.specs.declared.Profile.TheVariants.{One, Two};
 ghost use Rattle.alpha_words.specs.declared.insn.Insn.{Insn};
@@ -13,11 +13,13 @@ ghost use Rattle.lf_signature.specs.Typing.{Checks};
 ghost use Rattle.lf_signature.specs.Constants.{size_of, op_count_of, places_of, declared};
 ghost use Rattle.lf_signature.specs.declared.WordSignature.{WordSignature};
 
-/// States that a relation between two containers says what bytes are upgraded to, and that an
-/// accepted container is upgraded to an accepted one: whatever profile 1 and its signature have,
-/// the later ones have unchanged.
+/// States that a relation between two containers says what bytes are upgraded to (`exactly`), that
+/// bytes are refused with a flaw exactly if it is the first of their tests that fails (`refused`),
+/// and that an accepted container is upgraded to an accepted one: whatever profile 1 and its
+/// signature have, the later ones have unchanged.
 pub fn laws()
     ensures exactly { UpgradedExactly }
+    ensures refused { UpgradeRefused }
     ensures accepted { UpgradedAccepted }
 {
     proof_container::laws();

@@ -9,6 +9,7 @@ use Rattle.alpha_words.specs.Encoding.{Encodes}
 use Rattle.alpha_words.specs.Decoding.{decoded}
 use Rattle.alpha_words.specs.Lawful.{target_of}
 use Rattle.alpha_words.proofs.Words.{decoded-Encodes}
+use Rattle.alpha_words.proofs.WordTests.{decoded-flaw}
 use Rattle.alpha_cfg.specs.declared.code.TheConstants.{MAX_WORDS}
 use Rattle.alpha_cfg.specs.declared.fault.CodeFlaw.{CodeFlaw}
 use Rattle.alpha_cfg.specs.declared.fault.CodeFlaw.TheVariants as flaw
@@ -156,7 +157,8 @@ code_decided p bytes whole some short =
     elim (words_decided p bytes (length bytes / 4)) [
       | inr b ↦
           let inside : 4 * b.at + 4 ≤ length bytes = omega (arith, b.within, whole) in
-          inr (record { which = flaw.BadWord b.at (code_word_at bytes b.at) b.bad; is = (refl, b.read, inside, (b.front.insns, b.front.first)) })
+          let bad = (decoded-flaw p (code_word_at bytes b.at) b.bad).0 b.read in
+          inr (record { which = flaw.BadWord b.at (code_word_at bytes b.at) b.bad; is = (refl, bad, inside, (b.front.insns, b.front.first)) })
       | inl f ↦
           let count : length f.insns ≡ length bytes / 4 = f.first.count in
           let all : 4 * length f.insns ≡ length bytes = ap (λ n. 4 * n) count ∙ whole in

@@ -24,6 +24,7 @@ use Rattle.term_table.specs.Bytes.{IsBytes}
 use Rattle.proof_container.specs.Encoding.{IsContents, AreRising}
 use Rattle.proof_container.specs.declared.limits.TheConstants.{MAX_BYTES}
 use Rattle.proof_container.proofs.Whole.{container_takes, container_again, none_spelled, one_content}
+use Rattle.proof_container.proofs.SharpTests.{fault-exactly}
 use Rattle.vcgen.specs.declared.condition.TheConstants.{MAX_UNFOLDED}
 use Rattle.pcc_gate.specs.declared.refusal.Refusal.{Refusal}
 use Rattle.pcc_gate.specs.declared.refusal.Refusal.TheVariants as refusal
@@ -175,7 +176,7 @@ module _ (policy : PolicyView) (bytes : List ℕ) (next : Contents → List Insn
   front_finds (refusal.TooLong n) h b =
       let size : ℕ = length bytes in
       past MAX_BYTES size (told (refusal.TooLong size)) (first_read policy (decoded_container bytes) next) h.0 ∙ ap (λ k. told (refusal.TooLong k)) (sym h.1)
-  front_finds (refusal.Malformed at flaw) h b = after_size h.size ∙ ap (λ r. first_read policy r next) h.fault
+  front_finds (refusal.Malformed at flaw) h b = after_size h.size ∙ ap (λ r. first_read policy r next) ((fault-exactly bytes at flaw).1 h.fault)
   front_finds (refusal.OtherPolicy n) h b =
       let c : Contents = h.0 in
       after_contents c h.1
@@ -299,7 +300,8 @@ module _ (policy : PolicyView) (bytes : List ℕ) where
   from_second : IsBytes bytes → length bytes ≤ MAX_BYTES → (r : Result Contents Fault) → decoded_container bytes ≡ r → Outcome policy bytes
   from_second fits size (Ok c) e = from_third c (record { size = size; container = container_takes bytes c fits e })
   from_second fits size (Err f) e =
-      inr (record { why = refusal.Malformed f.0 f.1; first = record { size = size; nothing = none_spelled bytes f e; fault = e }; before = tt })
+      let first = (fault-exactly bytes f.0 f.1).0 e in
+      inr (record { why = refusal.Malformed f.0 f.1; first = record { size = size; nothing = none_spelled bytes f e; fault = first }; before = tt })
 
   pub front_decided : IsBytes bytes → Outcome policy bytes
   front_decided fits =

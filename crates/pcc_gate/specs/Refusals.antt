@@ -1,7 +1,7 @@
 -- What each refusal means: the clauses before it hold, its own fails, and its value is what that
 -- clause says of the bytes. The relations are those of the layers below, and nothing of the tests
 -- that find the refusal.
-use Rattle.std.specs.Prelude.{◌≡◌, ℕ, ◌<◌, ◌≤◌, Bool, List, [], ◌∷◌, ◌++◌, map, length, Option, None, Some, Err}
+use Rattle.std.specs.Prelude.{◌≡◌, ℕ, ◌<◌, ◌≤◌, Bool, List, [], ◌∷◌, ◌++◌, map, length, Option, None, Some}
 use Rattle.alpha_words.specs.declared.insn.Insn.{Insn}
 use Rattle.alpha_cfg.specs.Flow.{IsCode}
 use Rattle.alpha_cfg.specs.CodeBytes.{EncodesCode, IsFlaw}
@@ -17,7 +17,7 @@ use Rattle.lf_lemmas.specs.Checking.{LemmasCheck}
 use Rattle.lf_encode.specs.Contexts.{sort_types}
 use Rattle.proof_container.specs.Contents.{Contents, roots}
 use Rattle.proof_container.specs.Encoding.{EncodesContents}
-use Rattle.proof_container.specs.Decoding.{decoded_container}
+use Rattle.proof_container.specs.FieldTests.{IsFirstFault}
 use Rattle.proof_container.specs.declared.fault.Flaw.{Flaw}
 use Rattle.proof_container.specs.declared.limits.TheConstants.{MAX_BYTES}
 use Rattle.vcgen.specs.declared.condition.TheConstants.{MAX_HEIGHT, MAX_UNFOLDED}
@@ -106,7 +106,7 @@ pub record HasProvedLemmas (policy : PolicyView) (bytes : List ℕ) (contents : 
 pub record IsMalformed (bytes : List ℕ) (at : ℕ) (flaw : Flaw) : Type 0 where
   pub size : length bytes ≤ MAX_BYTES
   pub nothing : (contents : Contents) → EncodesContents bytes contents → ⊥
-  pub fault : decoded_container bytes ≡ Err (at, flaw)
+  pub fault : IsFirstFault bytes at flaw
 
 -- the first tree that is too high has this height
 pub record IsFirstHeight (trees : List Tree) (height : ℕ) : Type 0 where

@@ -2,4 +2,5 @@ pub mod Closed
 pub mod Numbers
 pub mod Heights
 pub mod Spelled
+pub mod PolicyFlaws
 pub mod Texts

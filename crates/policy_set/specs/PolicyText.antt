@@ -1,5 +1,6 @@
 -- Policies from files: which bytes spell a policy, and what is wrong with others.
 use Rattle.std.specs.Prelude.{◌≡◌, ◌≤◌, ℕ, nat_lt, if◌then◌else◌, false, List, [], ◌∷◌, length, None, Result, Ok, Err}
+use Rattle.word_ops.specs.Tests.{TestFor, test, FirstFails}
 use Rattle.word_ops.specs.declared.Profile.TheVariants.{Two}
 use Rattle.term_table.specs.Steps.{◌>>=◌}
 use Rattle.text_tokens.specs.Lines.{AreLines, lines_of}
@@ -24,6 +25,30 @@ pub record SpellsPolicy (bytes : List ℕ) (policy : PolicyView) : Type 0 where
   pub asked : Spells Two false first policy.pre
   pub promised : Spells Two false second policy.post
   pub no_kind : policy.kind ≡ None
+
+-- ---- what is wrong with others, in the order of the tests
+
+-- the line of this number spells a formula, or has the first fault of one
+abbrev pub is_formula : ℕ → List ℕ → TestFor PolicyFlaw
+is_formula n line = record {
+  passes = (F : Form) × Spells Two false line F;
+  fails = λ found. (fault : FaultAt) × (parsed_form Two false line ≡ Err fault) × (found ≡ flaw.Form n fault.0 fault.1);
+}
+
+-- the tests of lines: there are two, neither is long, and each spells a formula
+abbrev pub policy_tests : List (List ℕ) → List (TestFor PolicyFlaw)
+policy_tests (first ∷ second ∷ []) =
+    test (length first ≤ MAX_FORM_LINE) (flaw.Length 1)
+    ∷ test (length second ≤ MAX_FORM_LINE) (flaw.Length 2)
+    ∷ is_formula 1 first
+    ∷ is_formula 2 second
+    ∷ []
+policy_tests lines = test ⊥ (flaw.Lines (length lines)) ∷ []
+
+-- The first flaw of a file's bytes: of the tests of their lines this is the first that fails.
+abbrev pub IsPolicyFlaw : List ℕ → PolicyFlaw → Type 0
+IsPolicyFlaw bytes found =
+    (lines : List (List ℕ)) × AreLines bytes lines × FirstFails (policy_tests lines) found
 
 -- ---- the same as a function
 
@@ -70,3 +95,8 @@ IsPolicyAnswer view read (Err fault.Memory) = Unit {0}
 abbrev pub SpellsNoPolicy : List ℕ → PolicyFault → Type 0
 SpellsNoPolicy bytes fault.Memory = Unit {0}
 SpellsNoPolicy bytes (fault.At e) = (policy : PolicyView) → SpellsPolicy bytes policy → ⊥
+
+-- the fault is the first flaw of the bytes, or want of memory
+abbrev pub IsPolicyFault : List ℕ → PolicyFault → Type 0
+IsPolicyFault bytes fault.Memory = Unit {0}
+IsPolicyFault bytes (fault.At found) = IsPolicyFlaw bytes found

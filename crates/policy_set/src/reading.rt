@@ -5,7 +5,7 @@ ghost use Rattle.text_tokens.specs.Lines.{lines_of};
 ghost use Rattle.formula_tree.specs.Views.{form_view};
 ghost use Rattle.policy_set.specs.Views.{IsPolicyForm};
 ghost use Rattle.policy_set.specs.PolicyText.{form_lines, line_form, policy_read, IsPolicyAnswer};
-ghost use Rattle.policy_set.specs.PolicyText.{SpellsPolicy, SpellsNoPolicy};
+ghost use Rattle.policy_set.specs.PolicyText.{SpellsPolicy, SpellsNoPolicy, IsPolicyFault};
 
 use crate::fault::{PolicyFault, PolicyFlaw};
 use crate::limits::MAX_FORM_LINE;
@@ -78,6 +78,7 @@ fn parse(alloc: Global, bytes: &[u8]) -> Result<Policy, PolicyFault>
 pub fn read_policy(alloc: Global, bytes: &[u8]) -> Result<Policy, PolicyFault>
     ensures spells { IfOk result (λ policy. SpellsPolicy bytes.now policy) }
     ensures none { IfErr result (λ e. SpellsNoPolicy bytes.now e) }
+    ensures first { IfErr result (λ e. IsPolicyFault bytes.now e) }
     ensures exact { IsPolicyAnswer (λ policy. policy) (policy_read bytes.now) result }
 {
     parse(alloc, bytes)

@@ -1,6 +1,9 @@
 pub mod Walks
 pub mod Walking
 pub mod FieldLaws
+pub mod FieldTests
+pub mod ContainerTests
+pub mod SharpTests
 pub mod EntryLaws
 pub mod Sections
 pub mod Counted

@@ -7,6 +7,7 @@ pub mod Postorder
 pub mod Encoding
 pub mod Walks
 pub mod Decoding
+pub mod FieldTests
 pub mod Views
 pub mod Inside
 pub mod Names

@@ -1,6 +1,7 @@
 use Rattle.policy_set.proofs.Closed.{built_in-is, built_in-first}
 use Rattle.policy_set.proofs.Numbers.{number-exactly}
 use Rattle.policy_set.proofs.Spelled.{spelled-read, read-spelled, spelled-is}
+use Rattle.policy_set.proofs.PolicyFlaws.{flaw-is}
 use Rattle.policy_set.proofs.Texts.{text-spells, same-formulas}
 use Rattle.policy_set.proofs.theorems.laws.Goals as goal
 
@@ -10,6 +11,7 @@ returns c = record {
   operators = built_in-first;
   numbers = number-exactly;
   spelled = λ bytes policy. (spelled-read bytes policy, read-spelled bytes policy);
+  flawed = flaw-is;
   kept = spelled-is;
   printed = text-spells;
   texts = same-formulas;

@@ -1,6 +1,7 @@
 use Rattle.std.proofs.Common.{sym, ◌∙◌}
 use Rattle.proof_container.proofs.Walks.{entries_grow, entries_listed, ArePostorder-different, ArePostorder-parts}
 use Rattle.proof_container.proofs.Whole.{container_takes, container_again, one_content}
+use Rattle.proof_container.proofs.SharpTests.{fault-exactly, faulty-none, passes-exactly}
 use Rattle.proof_container.proofs.Same.{same_canonical}
 use Rattle.proof_container.proofs.theorems.laws.Goals as goal
 
@@ -24,3 +25,12 @@ returns-clause-earlier c rs = ArePostorder-parts _ (entries_grow rs)
 
 pub returns-clause-canonical : goal.returns-clause-canonical
 returns-clause-canonical c = same_canonical
+
+pub returns-clause-passes : goal.returns-clause-passes
+returns-clause-passes c = passes-exactly
+
+pub returns-clause-faulty : goal.returns-clause-faulty
+returns-clause-faulty c = fault-exactly
+
+pub returns-clause-nothing : goal.returns-clause-nothing
+returns-clause-nothing c = faulty-none
