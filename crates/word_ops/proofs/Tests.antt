@@ -1,5 +1,5 @@
 -- Of sharp tests at most one flaw is the first, and none if all pass; so an answer that speaks of them is exact.
-use Rattle.std.proofs.Common.{◌≡◌, ◌⊎◌, ◌↔◌, inl, inr, List, [], ◌∷◌, ◌++◌, Result, Ok, Err, refl, sym, ◌∙◌, ap, subst}
+use Rattle.std.proofs.Common.{◌≡◌, ◌↔◌, inl, inr, List, [], ◌∷◌, ◌++◌, Result, Ok, Err, refl, sym, ◌∙◌, ap, subst}
 use Rattle.word_ops.specs.Tests.{TestFor, test, AllPass, FirstFails, Answers, IsSharp, AreSharp}
 
 module _ {Flaw : Type 0} where
