@@ -4,7 +4,7 @@
 //! its tree.
 
 ghost use Rattle.std.specs.Prelude.{◌≡◌, ◌<◌, ◌∷◌, [], ℕ, List, Option, is_some, codes, map, length};
-ghost use Rattle.std.specs.Prelude.{get_or, if◌then◌else◌, IfOk, OnOk};
+ghost use Rattle.std.specs.Prelude.{get_or, IfOk, OnOk};
 ghost use Rattle.term_table.specs.Table.{IsKnown, AllKnown, tree_at, Extends};
 ghost use Rattle.formula_tree.specs.Formulas.{Form};
 ghost use Rattle.lf_terms.specs.Encoding.{form_encoding};

@@ -4,7 +4,7 @@
 //! its tree.
 
 ghost use Rattle.std.specs.Prelude.{◌≡◌, ◌<◌, ◌≤◌, ◌+◌, ◌&&◌, ◌||◌, ◌++◌, ◌∷◌, [], OnOk, All, map};
-ghost use Rattle.std.specs.Prelude.{true, not, take, drop, length, Option, ℕ, IfOk};
+ghost use Rattle.std.specs.Prelude.{true, not, take, drop, length, Option, IfOk};
 ghost use Rattle.term_table.specs.Table.{IsKnown, AllKnown, tree_at, Extends};
 ghost use Rattle.prover_goals.specs.Search.{IsSearch};
 ghost use Rattle.view_goals.specs.Rows.{row_view, HasKnownId};
