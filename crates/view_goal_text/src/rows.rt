@@ -50,12 +50,7 @@ fn hard_mark(wrong: bool) -> Mark
 }
 
 /// Returns how the goal that the term encodes is marked.
-fn mark_of(
-    table: &mut Table,
-    bound: Option<u32>,
-    easy: bool,
-    id: Id,
-) -> Result<Mark, AllocError>
+fn mark_of(table: &mut Table, bound: Option<u32>, easy: bool, id: Id) -> Result<Mark, AllocError>
     requires { IsKnown table.old id }
     ensures exact { IfOk result (λ m. m ≡ mark_of bound easy (tree_at table.old id)) }
     ensures extends { Extends table.old table.new }

@@ -33,12 +33,7 @@ fn push_source_line(out: &mut Vec<u8>, lines: &[u32], index: u32) -> Result<(), 
 }
 
 /// Appends a word and the index after it, with its line of the source if that is known.
-fn push_indexed(
-    out: &mut Vec<u8>,
-    lines: &[u32],
-    word: &str,
-    index: u32,
-) -> Result<(), AllocError>
+fn push_indexed(out: &mut Vec<u8>, lines: &[u32], word: &str, index: u32) -> Result<(), AllocError>
     ensures { OnOk result (out.new.items ≡ out.old.items ++ indexed lines.now word.now index) }
 {
     push_numbered(out, word, u64::from(index))?;
@@ -70,12 +65,7 @@ fn push_worded(out: &mut Vec<u8>, text: &str, n: u64) -> Result<(), AllocError>
 }
 
 /// The title of the part of a number.
-fn push_title(
-    out: &mut Vec<u8>,
-    lines: &[u32],
-    number: usize,
-    at: u32,
-) -> Result<(), AllocError>
+fn push_title(out: &mut Vec<u8>, lines: &[u32], number: usize, at: u32) -> Result<(), AllocError>
     ensures { OnOk result (out.new.items ≡ out.old.items ++ part_title lines.now number at) }
 {
     if number == 0 {

@@ -151,11 +151,7 @@ fn is_false_form(form: Option<Form>) -> bool
 /// Checks whether the term has at most `MAX_SHOWN` nodes and encodes a formula that is false by
 /// computing.
 #[tactic(auto, unfolding(crate::specs::Formulas::is_false_term))]
-pub fn is_false_term(
-    table: &mut Table,
-    bound: Option<u32>,
-    id: Id,
-) -> Result<bool, AllocError>
+pub fn is_false_term(table: &mut Table, bound: Option<u32>, id: Id) -> Result<bool, AllocError>
     requires { IsKnown table.old id }
     ensures exact { IfOk result (λ b. b ≡ is_false_term bound (tree_at table.old id)) }
     ensures extends { Extends table.old table.new }
