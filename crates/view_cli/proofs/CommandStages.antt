@@ -1,12 +1,11 @@
 -- How commands go on behind each of their stages.
 use Rattle.std.proofs.Common.{◌≡◌, Vec, Global, sym, subst}
-use Rattle.std.specs.Prelude.{ℕ, List, slice_get, Option, Result}
+use Rattle.std.specs.Prelude.{ℕ, Bool, List, slice_get, Option, Result}
 use Rattle.alpha_words.specs.declared.insn.Insn.{Insn}
 use Rattle.policy_set.specs.Views.{PolicyView}
 use Rattle.proof_container.specs.Contents.{Contents}
 use Rattle.proof_container.specs.Decoding.{decoded_container}
 use Rattle.view_container.specs.Listing.{listing_text}
-use Rattle.view_goal_text.specs.Listing.{goals_of_bytes}
 use Rattle.file_port.specs.Events.{Event}
 use Rattle.file_port.specs.Files.{FilesState}
 use Rattle.pcc_stages.specs.Answers.{Gives}
@@ -16,7 +15,7 @@ use Rattle.pcc_stages.specs.Runs.{done_exit}
 use Rattle.pcc_stages.specs.Stage.{Stage, gives, ◌>>=◌}
 use Rattle.pcc_stages.specs.Stages.Containers.{container_bytes_of, code_of}
 use Rattle.pcc_stages.specs.Stages.Packets.{packets_of}
-use Rattle.view_cli.specs.Commands.Goals.{goals_found}
+use Rattle.view_cli.specs.Commands.Goals.{lines_beside, goals_styled}
 use Rattle.view_cli.specs.Commands.List.{source_lines_of, listing_in}
 use Rattle.view_cli.specs.Commands.Packet.{packet_exit}
 
@@ -48,12 +47,14 @@ abbrev pub bytes_stage : Option (List ℕ) → List ℕ → Stage Exit
 bytes_stage from bytes = listing_in from bytes (decoded_container bytes)
 
 -- `goals`, behind the container's bytes
-abbrev pub goals_stage : PolicyView → List ℕ → Stage Exit
-goals_stage under bytes = goals_found (goals_of_bytes under bytes)
+abbrev pub goals_stage : Option (List ℕ) → Bool → Bool → PolicyView → List ℕ → Stage Exit
+goals_stage from only_missing all under bytes =
+    lines_beside from (decoded_container bytes) >>= goals_styled only_missing all under bytes
 
 -- behind the policy
-abbrev pub goals_under : List ℕ → PolicyView → Stage Exit
-goals_under file under = container_bytes_of file >>= goals_stage under
+abbrev pub goals_under : Option (List ℕ) → Bool → Bool → List ℕ → PolicyView → Stage Exit
+goals_under from only_missing all file under =
+    container_bytes_of file >>= goals_stage from only_missing all under
 
 -- `packet`, behind the packets
 abbrev pub last_stage : PolicyView → List Insn → ℕ → ℕ → List (List ℕ) → Stage Exit

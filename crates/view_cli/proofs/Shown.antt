@@ -51,8 +51,9 @@ use Rattle.view_container.specs.Laws.{AreLineNumbers, IsListedSource}
 use Rattle.view_container.specs.Listing.{listing_text}
 use Rattle.view_container.specs.Sources.{source_listing}
 use Rattle.view_goal_text.specs.Laws.{NamesFirst}
-use Rattle.view_goal_text.specs.Lines.{verdict_line}
-use Rattle.view_goal_text.specs.Texts.{goal_lines_text}
+use Rattle.view_labels.specs.Labels.{verdict_line}
+use Rattle.view_lines.specs.Texts.{goal_lines_text}
+use Rattle.view_goal_text.specs.Styles.{StyleView}
 use Rattle.view_goal_text.specs.Listing.{goal_parts, parts_lines, goals_text, goals_of_code, goals_read, listed_unless, goals_of_bytes}
 use Rattle.view_trace.specs.Traces.{trace_from, packet_text}
 use Rattle.view_faults.specs.FormReports.{without_lf, formula_line, form_fault_text, report_of_form, formula_report}
@@ -82,7 +83,7 @@ use Rattle.view_cli.specs.Invocations as views
 use Rattle.view_cli.specs.Texts.{view_texts, formula_too_long_line}
 use Rattle.view_cli.specs.declared.limits.TheConstants.{MAX_FORMULA}
 use Rattle.view_cli.specs.Commands.Faults.{told_exit, formula_command, policy_command, source_command}
-use Rattle.view_cli.specs.Commands.Goals.{goals_found, goals_command}
+use Rattle.view_cli.specs.Commands.Goals.{goals_found, lines_beside, style_of, goals_styled, goals_command}
 use Rattle.view_cli.specs.Commands.List.{lines_found, lines_in, source_lines_of, listing_in, list_command}
 use Rattle.view_cli.specs.Commands.Packet.{traced_exit, where_started, packet_command}
 use Rattle.view_cli.specs.Tasks.{view_task}
@@ -288,21 +289,21 @@ module _
 
 -- ---- `goals`
 
--- what bytes hold whose goals are listed
-record Listing (policy : PolicyView) (bytes text : List ℕ) : Type 0 where
+-- what bytes hold whose goals are listed in a style
+record Listing (s : StyleView) (policy : PolicyView) (bytes text : List ℕ) : Type 0 where
   contents : Contents
   code : List Insn
   holds : decoded_container bytes ≡ Ok contents
   code_is : decoded_code (profile_of contents.version) contents.code ≡ Ok code
-  shown : goals_text policy contents code ≡ text
+  shown : goals_text s policy contents code ≡ text
 
 -- a listing is no refusal
-listing_code : (policy : PolicyView) (bytes text : List ℕ) (c : Contents)
+listing_code : (s : StyleView) (policy : PolicyView) (bytes text : List ℕ) (c : Contents)
     → decoded_container bytes ≡ Ok c → (r : Result (List Insn) CodeFlaw)
-    → decoded_code (profile_of c.version) c.code ≡ r → goals_of_code policy c r ≡ Ok text
-    → Listing policy bytes text
-listing_code policy bytes text c holds (Err flaw) code_is is = absurd (true≢false (sym (ap is_ok is)))
-listing_code policy bytes text c holds (Ok code) code_is is = record {
+    → decoded_code (profile_of c.version) c.code ≡ r → goals_of_code s policy c r ≡ Ok text
+    → Listing s policy bytes text
+listing_code s policy bytes text c holds (Err flaw) code_is is = absurd (true≢false (sym (ap is_ok is)))
+listing_code s policy bytes text c holds (Ok code) code_is is = record {
   contents = c;
   code = code;
   holds = holds;
@@ -310,23 +311,23 @@ listing_code policy bytes text c holds (Ok code) code_is is = record {
   shown = cc;
 }
 
-listing_read : (policy : PolicyView) (bytes text : List ℕ) (r : Result Contents Fault)
-    → decoded_container bytes ≡ r → goals_read policy r ≡ Ok text → Listing policy bytes text
-listing_read policy bytes text (Err fault) holds is = absurd (true≢false (sym (ap is_ok is)))
-listing_read policy bytes text (Ok c) holds is =
-    listing_code policy bytes text c holds (decoded_code (profile_of c.version) c.code) refl is
+listing_read : (s : StyleView) (policy : PolicyView) (bytes text : List ℕ) (r : Result Contents Fault)
+    → decoded_container bytes ≡ r → goals_read s policy r ≡ Ok text → Listing s policy bytes text
+listing_read s policy bytes text (Err fault) holds is = absurd (true≢false (sym (ap is_ok is)))
+listing_read s policy bytes text (Ok c) holds is =
+    listing_code s policy bytes text c holds (decoded_code (profile_of c.version) c.code) refl is
 
-listing_unless : (policy : PolicyView) (bytes text : List ℕ) (o : Option Refusal)
-    → listed_unless o (goals_read policy (decoded_container bytes)) ≡ Ok text
-    → Listing policy bytes text
-listing_unless policy bytes text (Some r) is = absurd (true≢false (sym (ap is_ok is)))
-listing_unless policy bytes text None is =
-    listing_read policy bytes text (decoded_container bytes) refl is
+listing_unless : (s : StyleView) (policy : PolicyView) (bytes text : List ℕ) (o : Option Refusal)
+    → listed_unless o (goals_read s policy (decoded_container bytes)) ≡ Ok text
+    → Listing s policy bytes text
+listing_unless s policy bytes text (Some r) is = absurd (true≢false (sym (ap is_ok is)))
+listing_unless s policy bytes text None is =
+    listing_read s policy bytes text (decoded_container bytes) refl is
 
-listing : (policy : PolicyView) (bytes text : List ℕ) → goals_of_bytes policy bytes ≡ Ok text
-    → Listing policy bytes text
+listing : (s : StyleView) (policy : PolicyView) (bytes text : List ℕ)
+    → goals_of_bytes s policy bytes ≡ Ok text → Listing s policy bytes text
 unfolding goals_of_bytes
-listing policy bytes text is = listing_unless policy bytes text (front_refusal policy bytes) is
+listing s policy bytes text is = listing_unless s policy bytes text (front_refusal policy bytes) is
 
 -- a text that ends with the line of a part
 ends_same : (front : List ℕ) (a b : Option ℕ) → a ≡ b
@@ -334,12 +335,12 @@ ends_same : (front : List ℕ) (a b : Option ℕ) → a ≡ b
 ends_same front a b is = (front, ap (λ (k : Option ℕ). front ++ verdict_line k) is)
 
 -- the last line of a listing
-listing_end : NamesFirst → (policy : PolicyView) (c : Contents) (code : List Insn)
-    → (front : List ℕ) × (goals_text policy c code ≡ front ++ verdict_line (first_hard_part policy c code))
+listing_end : NamesFirst → (s : StyleView) (policy : PolicyView) (c : Contents) (code : List Insn)
+    → (front : List ℕ) × (goals_text s policy c code ≡ front ++ verdict_line (first_hard_part policy c code))
 unfolding goals_text
-listing_end first policy c code =
+listing_end first s policy c code =
     let parts = goal_parts (annotated policy c.bound code (formulas c.invs)) in
-    ends_same (goal_lines_text c.bound (parts_lines c.bound 0 parts)) _ _ (first policy c.bound code c.invs)
+    ends_same (goal_lines_text c.bound (parts_lines s c.bound 0 parts)) _ _ (first policy c.bound code c.invs)
 
 -- `prove` names the part that isn't easy
 names_part : (policy : PolicyView) (bytes : List ℕ) (c : Contents) (code : List Insn) (k : ℕ)
@@ -356,41 +357,102 @@ names_part policy bytes c code k holds code_is hard none =
     (λ (o : Option ℕ). with_parts_proof c o
     (condition_proof (is_some c.bound) (condition_parts policy c.bound code c.invs))) hard
 
-module _ (laws : ViewLaws) (file : List ℕ) (word : PolicyWord) where
-  goals_listed : (told : List Event) (under : PolicyView) → IsToldBy word told under
-      → (b : List ℕ) (r : Result (List ℕ) Refusal) → goals_of_bytes under b ≡ r
-      → Always view_texts
-      (Done (λ es. ListsGoals word file (told ++ was_read file MAX_FILE (whole b) ∷ es)))
-      (goals_found r >>= ending)
-  goals_listed told under tells b (Err r) is = λ z. refused_none z
-  goals_listed told under tells b (Ok text) is =
-      let l = listing under b text is in
-      let end = listing_end laws.first under l.contents l.code in (
-        refl,
-        λ z. record {
-          policy = under;
-          told = told;
-          bytes = b;
-          contents = l.contents;
-          code = l.code;
-          reads = refl;
-          tells = tells;
-          listed = is;
-          holds = l.holds;
-          code_is = l.code_is;
-          shown = sym l.shown;
-          last = (end.0, sym l.shown ∙ end.1);
-          proves = λ k hard none. names_part under b l.contents l.code k l.holds l.code_is hard none;
-        },
-      )
+-- what is a container is one alone
+contents_same : (c d : Contents) → ◌≡◌ {A = Result Contents Fault} (Ok c) (Ok d) → c ≡ d
+contents_same c d is = ap (contents_or_this c) is
+  where
+    contents_or_this : Contents → Result Contents Fault → Contents
+    contents_or_this e (Ok f) = f
+    contents_or_this e (Err fault) = e
 
-  goals_show : Always view_texts (IsShown (views.goals word file)) (goals_command word file >>= ending)
+-- the goals that are found, or a refusal
+goals_out : (Q : List Event → List ℕ → Type 0) (r : Result (List ℕ) Refusal)
+    → ((text : List ℕ) → r ≡ Ok text → Q [] text) → Always view_texts (Done Q) (goals_found r >>= ending)
+goals_out Q (Err r) show = λ z. refused_none z
+goals_out Q (Ok text) show = (refl, λ z. show text refl)
+
+module _ (laws : ViewLaws) (file : List ℕ) (word : PolicyWord) (only_missing all : Bool) where
+  -- what was listed
+  abbrev GoalsListed : Option (List ℕ) → List Event → List ℕ → List Event → List ℕ → Type 0
+  GoalsListed from told b es text =
+      ListsGoals word file from only_missing all (told ++ was_read file MAX_FILE (whole b) ∷ es) text
+
+  goals_listed : (from : Option (List ℕ)) (told : List Event) (under : PolicyView)
+      → IsToldBy word told under → (b : List ℕ) (later : List Event) (lines : List ℕ)
+      → ((c : Contents) → decoded_container b ≡ Ok c → AreLinesOf from c later lines)
+      → (text : List ℕ) → goals_of_bytes (style_of only_missing all lines) under b ≡ Ok text
+      → GoalsListed from told b later text
+  goals_listed from told under tells b later lines beside text is =
+      let s = style_of only_missing all lines in
+      let l = listing s under b text is in
+      let end = listing_end laws.first s under l.contents l.code in record {
+        policy = under;
+        told = told;
+        bytes = b;
+        contents = l.contents;
+        code = l.code;
+        lines = lines;
+        later = later;
+        reads = refl;
+        tells = tells;
+        beside = beside l.contents l.holds;
+        listed = is;
+        holds = l.holds;
+        code_is = l.code_is;
+        shown = sym l.shown;
+        last = (end.0, sym l.shown ∙ end.1);
+        proves = λ k hard none. names_part under b l.contents l.code k l.holds l.code_is hard none;
+      }
+
+  goals_parsed : (told : List Event) (under : PolicyView) → IsToldBy word told under → (b : List ℕ)
+      (c : Contents) → decoded_container b ≡ Ok c → (from text : List ℕ)
+      → (r : Result Source (ℕ × LineFlaw))
+      → parsed_source (profile_of c.version) (is_some c.bound) text ≡ r
+      → Always view_texts
+      (Done (λ es. GoalsListed (Some from) told b (was_read from MAX_SOURCE (whole text) ∷ es)))
+      ((lines_found r >>= goals_styled only_missing all under b) >>= ending)
+  goals_parsed told under tells b c is from text (Err fault) parsed = λ z. refused_none z
+  goals_parsed told under tells b c is from text (Ok s) parsed =
+      let lines = map (λ insn. insn.0) s.insns in
+      let later : List Event = was_read from MAX_SOURCE (whole text) ∷ [] in
+      let spelled : SpellsSource (profile_of c.version) (is_some c.bound) text s =
+      (laws.sources (profile_of c.version) (is_some c.bound) text s).1 parsed in
+      goals_out (λ es. GoalsListed (Some from) told b (was_read from MAX_SOURCE (whole text) ∷ es))
+      (goals_of_bytes (style_of only_missing all lines) under b) (λ out ok.
+      goals_listed (Some from) told under tells b later lines (λ d held.
+      subst (λ (k : Contents). AreLinesOf (Some from) k later lines) (contents_same c d (sym is ∙ held))
+      (text, s, refl, spelled, refl)) out ok)
+
+  goals_in : (from : Option (List ℕ)) (told : List Event) (under : PolicyView)
+      → IsToldBy word told under → (b : List ℕ) (r : Result Contents Fault) → decoded_container b ≡ r
+      → Always view_texts (Done (GoalsListed from told b))
+      ((lines_beside from r >>= goals_styled only_missing all under b) >>= ending)
+  unfolding source_lines_of lines_in
+  goals_in from told under tells b (Err fault) is =
+      goals_out (GoalsListed from told b) (goals_of_bytes (style_of only_missing all []) under b)
+      (λ out ok.
+      let l = listing (style_of only_missing all []) under b out ok in
+      absurd (true≢false (ap is_ok (sym l.holds ∙ is))))
+  goals_in None told under tells b (Ok c) is =
+      goals_out (GoalsListed None told b) (goals_of_bytes (style_of only_missing all []) under b)
+      (λ out ok. goals_listed None told under tells b [] [] (λ d held. (refl, refl)) out ok)
+  goals_in (Some from) told under tells b (Ok c) is =
+      reads_on (GoalsListed (Some from) told b) from MAX_SOURCE source_too_long_line
+      (λ text. (lines_in c.version c.bound text >>= goals_styled only_missing all under b) >>= ending)
+      (λ text octets short.
+      goals_parsed told under tells b c is from text
+      (parsed_source (profile_of c.version) (is_some c.bound) text) refl)
+
+  goals_show : (from : Option (List ℕ))
+      → Always view_texts (IsShown (views.goals word file from only_missing all))
+      (goals_command word file from only_missing all >>= ending)
   unfolding goals_command
-  goals_show =
-      word_shows laws (goals_under file) (λ w. ListsGoals w file) word (λ told under tells.
-      reads_on (λ es. ListsGoals word file (told ++ es)) file MAX_FILE container_too_long_line
-      (λ b. goals_stage under b >>= ending) (λ b octets short.
-      goals_listed told under tells b (goals_of_bytes under b) refl))
+  goals_show from =
+      word_shows laws (goals_under from only_missing all file)
+      (λ w. ListsGoals w file from only_missing all) word (λ told under tells.
+      reads_on (λ es. ListsGoals word file from only_missing all (told ++ es)) file MAX_FILE
+      container_too_long_line (λ b. goals_stage from only_missing all under b >>= ending)
+      (λ b octets short. goals_in from told under tells b (decoded_container b) refl))
 
 -- ---- `packet`
 
@@ -852,7 +914,8 @@ source_shows laws file version bound =
 always_shown : ViewLaws → (invocation : ViewInvocation)
     → Always view_texts (IsShown invocation) (view_task (Some invocation)).stage
 always_shown laws (views.list file from) = list_shows laws file from
-always_shown laws (views.goals word file) = goals_show laws file word
+always_shown laws (views.goals word file from only_missing all) =
+    goals_show laws file word only_missing all from
 always_shown laws (views.packet word file packets k steps) =
     packet_shows laws file packets k steps word
 always_shown laws (views.formula file p left) = formula_shows laws file p left

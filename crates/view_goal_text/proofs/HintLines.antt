@@ -1,8 +1,10 @@
 -- The lines of hints.
-use Rattle.std.proofs.Common.{◌≡◌, ℕ, ◌+◌, ◌<◌, ◌↔◌, Bool, true, false, List, [], ◌∷◌, ◌++◌, map, take, get_or, length, refl, sym, ◌∙◌, ap, subst, arith}
+use Rattle.std.proofs.Common.{◌≡◌, ℕ, ◌+◌, ◌<◌, ◌↔◌, Bool, true, false, List, [], ◌∷◌, ◌++◌, map, take, drop, suc, get_or, length, Option, append_assoc, refl, sym, ◌∙◌, ap, subst, arith}
 use Rattle.std.specs.Prelude.{IsTrue, codes}
 use Rattle.std.proofs.lemmas.List.{map-append}
 use Rattle.std.proofs.lemmas.Bool.{cond-true, cond-false}
+use Rattle.formula_tree.specs.Formulas.{Form}
+use Rattle.prover_class.specs.Hypotheses.{Hyps}
 use Rattle.term_table.specs.Tree.{Tree}
 use Rattle.term_table.specs.Equality.{tree_eq}
 use Rattle.term_table.specs.Table.{TableView, AllKnown, tree_at, Extends}
@@ -12,10 +14,14 @@ use Rattle.view_marks.specs.Hints.{HintView, Plain, Bounds, Rights}
 use Rattle.view_marks.specs.declared.hints.Hint.{Hint}
 use Rattle.view_marks.specs.declared.hints.Hint.TheVariants as H
 use Rattle.view_marks.specs.Answers.{IsHint, IsKnownHint}
-use Rattle.view_goal_text.specs.Lines.{plain_line, before}
-use Rattle.view_goal_text.specs.Hints.{missing_lines, bounds_label, like_lines, said_lines}
-use Rattle.view_goal_text.proofs.Growing.{id-known}
-use Rattle.view_goal_text.proofs.ShownTexts.{taken-more}
+use Rattle.view_lines.specs.Lines.{plain_line, before}
+use Rattle.view_lines.proofs.Adding.{id-known}
+use Rattle.view_labels.specs.Labels.{bounds_label}
+use Rattle.view_lines.specs.Formulas.{is_false_term}
+use Rattle.view_lines.specs.Shown.{ShownView, shown_line, line_view, AreAdded}
+use Rattle.view_lines.specs.declared.lines.ShownLine.{ShownLine}
+use Rattle.view_goal_text.specs.Hints.{missing_label, missing_lines, like_lines, said_lines, part_hint, part_hints}
+use Rattle.view_lines.proofs.ShownTexts.{taken-more}
 
 -- ---- ids as the table grows
 
@@ -54,13 +60,33 @@ told b P h e = h.0 e
 pub denied : (b : Bool) (P : Type 0) → IsTrue b ↔ P → b ≡ false → P → ⊥
 denied b P h e p = let wrong : true ≡ false = sym (h.1 p) ∙ e in absurd cc
 
-pub missing-same : (s t : Tree) → s ≡ t → missing_lines s t ≡ []
-missing-same s t e =
+pub missing-same : (bound : Option ℕ) (s t : Tree) → s ≡ t → missing_lines bound s t ≡ []
+missing-same bound s t e =
     let same : tree_eq s t ≡ true = ap (tree_eq s) (sym e) ∙ tree_eq_refl s in
     cond-true (tree_eq s t) _ _ same
 
-pub missing-other : (s t : Tree) → (s ≡ t → ⊥) → missing_lines s t ≡ before (codes "  missing: ") s ∷ []
-missing-other s t e = cond-false (tree_eq s t) _ _ (tree_eq-false s t e)
+pub missing-other : (bound : Option ℕ) (s t : Tree) → (s ≡ t → ⊥)
+    → missing_lines bound s t ≡ before (missing_label (is_false_term bound s)) s ∷ []
+missing-other bound s t e = cond-false (tree_eq s t) _ _ (tree_eq-false s t e)
+
+-- one part more
+pub hint-step : (bound : Option ℕ) (u v : TableView) (Γ : Hyps) (Ms : List Form) (i : ℕ) (M : Form)
+    (g : Tree) (mid new : List ShownLine) (whole : List ShownView) → drop i Ms ≡ M ∷ drop (suc i) Ms
+    → AreAdded bound u v mid (part_hint bound Γ M g) new
+    → map (line_view u) mid ++ map (shown_line bound) (part_hints bound Γ (drop i Ms) g) ≡ whole
+    → map (line_view v) new ++ map (shown_line bound) (part_hints bound Γ (drop (i + 1) Ms) g) ≡ whole
+hint-step bound u v Γ Ms i M g mid new whole split is first =
+    let f = shown_line bound in
+    let next : i + 1 ≡ suc i = omega arith in
+    let here = part_hint bound Γ M g in
+    let later = part_hints bound Γ (drop (suc i) Ms) g in
+    ap (λ n. map (line_view v) new ++ map f (part_hints bound Γ (drop n Ms) g)) next
+    ∙ ap (λ l. l ++ map f later) is
+    ∙ append_assoc (map (line_view u) mid) (map f here) (map f later)
+    ∙ ap (λ l. map (line_view u) mid ++ l)
+    (sym (map-append f here later)
+    ∙ ap (λ (l : List Form). map f (part_hints bound Γ l g)) (sym split))
+    ∙ first
 
 -- ---- rights
 

@@ -1,27 +1,42 @@
-//! The hint after a goal that isn't easy.
+//! The hints after a goal that isn't easy.
 //!
 //! Errors: out of memory, and `Results` if the search would cache more than it may; every id keeps
 //! its tree.
 
-ghost use Rattle.std.specs.Prelude.{◌≡◌, ◌<◌, ◌∷◌, [], ℕ, Option, is_some, codes, map, length};
+ghost use Rattle.std.specs.Prelude.{◌≡◌, ◌<◌, ◌∷◌, [], ℕ, List, Option, is_some, codes, map, length};
 ghost use Rattle.std.specs.Prelude.{get_or, IfOk, OnOk};
 ghost use Rattle.term_table.specs.Table.{IsKnown, AllKnown, tree_at, Extends};
+ghost use Rattle.formula_tree.specs.Formulas.{Form};
+ghost use Rattle.lf_terms.specs.Encoding.{form_encoding};
 ghost use Rattle.prover_goals.specs.Search.{IsSearch};
-ghost use Rattle.view_marks.specs.Hints.{HintView};
+ghost use Rattle.view_labels.specs.Labels.{bounds_label};
+ghost use Rattle.view_marks.specs.Hints.{HintView, known_hyps};
 ghost use Rattle.view_marks.specs.Answers.{IsHint, IsKnownHint};
-ghost use Rattle.view_goal_text.specs.Lines.{plain_line, before};
-ghost use Rattle.view_goal_text.specs.Hints.{missing_lines, bounds_label, like_lines, said_lines};
-ghost use Rattle.view_goal_text.specs.Hints.{goal_hint};
+ghost use Rattle.view_lines.specs.Lines.{plain_line, before};
+ghost use Rattle.view_goal_text.specs.Hints.{missing_label, missing_lines, like_lines, said_lines};
+ghost use Rattle.view_goal_text.specs.Hints.{part_hint, part_hints, goal_hint};
 ghost use Rattle.view_goal_text.specs.Inside.FormTerms.{IsFormTerm, AreFormTerms};
-ghost use Rattle.view_goal_text.specs.Inside.Shown.{AreKnownLines, AreAdded};
+ghost use Rattle.view_lines.specs.Shown.{AreKnownLines, AreAdded};
 
-use crate::labels::{bounds_label, label_of};
-use crate::lines::{ShownLine, push_formula, push_words};
+use crate::style::Manner;
 use hereditary_subst::Exhausted;
 use prover_goals::Search;
-use std::alloc::AllocError;
+use std::alloc::{AllocError, Global};
 use term_table::{Id, Table};
-use view_marks::{Hint, missing_of};
+use view_labels::{bounds_label, label_of};
+use view_lines::{ShownLine, is_false_term, push_formula, push_words};
+use view_marks::{Hint, Wanted, hint_about, missing_parts};
+
+/// What is printed before a missing part, which is false by computing or not.
+fn missing_label(alloc: Global, wrong: bool) -> Result<Vec<u8>, AllocError>
+    ensures { IfOk result (λ v. v.items ≡ missing_label wrong) }
+{
+    if wrong {
+        label_of(alloc, "  false: ")
+    } else {
+        label_of(alloc, "  missing: ")
+    }
+}
 
 /// The line of the missing part of a goal, unless that is the goal itself.
 fn push_missing(
@@ -34,7 +49,8 @@ fn push_missing(
     requires lines { AreKnownLines table.old lines.old.items }
     requires part { IsKnown table.old part }
     requires goal { IsKnown table.old goal }
-    ensures exact { let added = missing_lines (tree_at table.old part) (tree_at table.old goal) in
+    ensures exact { let t = table.old in
+        let added = missing_lines bound (tree_at t part) (tree_at t goal) in
         OnOk result (AreAdded bound table.old table.new lines.old.items added lines.new.items) }
     ensures known { OnOk result (AreKnownLines table.new lines.new.items) }
     ensures extends { Extends table.old table.new }
@@ -43,7 +59,8 @@ fn push_missing(
     if same {
         return Ok(());
     }
-    let label = label_of(table.allocator(), "  missing: ")?;
+    let wrong = is_false_term(table, bound, part)?;
+    let label = missing_label(table.allocator(), wrong)?;
     push_formula(table, bound, lines, label, part)?;
     Ok(())
 }
@@ -147,12 +164,74 @@ fn push_said(
     }
 }
 
-/// Adds the lines of the hint for a goal under the hypotheses `known`.
+/// Adds the lines about a missing part of a goal under the hypotheses `known`.
+#[tactic(auto, using(prover_goals::proofs::Kept::rows))]
+fn push_part_hint(
+    table: &mut Table,
+    search: &mut Search,
+    bound: Option<u32>,
+    lines: &mut Vec<ShownLine>,
+    known: &[Id],
+    part: Id,
+    goal: Id,
+) -> Result<(), Exhausted>
+    requires lines { AreKnownLines table.old lines.old.items }
+    requires known { AllKnown table.old known.now }
+    requires part { IsKnown table.old part }
+    requires goal { IsKnown table.old goal }
+    requires search { IsSearch table.old search.old }
+    ensures exact { (Fs : List Form) (M : Form)
+        → map (tree_at table.old) known.now ≡ map form_encoding Fs
+        → tree_at table.old part ≡ form_encoding M → OnOk result
+        (AreAdded bound table.old table.new lines.old.items
+        (part_hint bound (known_hyps [] 0 Fs) M (tree_at table.old goal)) lines.new.items) }
+    ensures known { OnOk result (AreKnownLines table.new lines.new.items) }
+    ensures extends { Extends table.old table.new }
+    ensures search { OnOk result (IsSearch table.new search.new) }
+{
+    let hint = hint_about(table, search, bound.is_some(), known, part)?;
+    push_missing(table, bound, lines, part, goal)?;
+    push_said(table, bound, lines, &hint)?;
+    Ok(())
+}
+
+/// Adds the lines about each of the missing parts of a goal under the hypotheses `known`.
+fn push_part_hints(
+    table: &mut Table,
+    search: &mut Search,
+    bound: Option<u32>,
+    lines: &mut Vec<ShownLine>,
+    known: &[Id],
+    parts: &[Id],
+    goal: Id,
+) -> Result<(), Exhausted>
+    requires lines { AreKnownLines table.old lines.old.items }
+    requires known { AllKnown table.old known.now }
+    requires parts { AllKnown table.old parts.now }
+    requires goal { IsKnown table.old goal }
+    requires search { IsSearch table.old search.old }
+    ensures exact { (Fs Ms : List Form)
+        → map (tree_at table.old) known.now ≡ map form_encoding Fs
+        → map (tree_at table.old) parts.now ≡ map form_encoding Ms → OnOk result
+        (AreAdded bound table.old table.new lines.old.items
+        (part_hints bound (known_hyps [] 0 Fs) Ms (tree_at table.old goal)) lines.new.items) }
+    ensures known { OnOk result (AreKnownLines table.new lines.new.items) }
+    ensures extends { Extends table.old table.new }
+    ensures search { OnOk result (IsSearch table.new search.new) }
+{
+    for index in 0..parts.len() {
+        let part = id_at(table, parts, index);
+        push_part_hint(table, search, bound, lines, known, part, goal)?;
+    }
+    Ok(())
+}
+
+/// Adds the hints for a goal under the hypotheses `known`.
 #[tactic(auto, using(prover_goals::proofs::Kept::rows))]
 pub(crate) fn push_hint(
     table: &mut Table,
     search: &mut Search,
-    bound: Option<u32>,
+    manner: &Manner,
     lines: &mut Vec<ShownLine>,
     known: &[Id],
     goal: Id,
@@ -161,16 +240,21 @@ pub(crate) fn push_hint(
     requires known { AllKnown table.old known.now }
     requires goal { IsKnown table.old goal }
     requires search { IsSearch table.old search.old }
-    ensures exact { let trees = map (tree_at table.old) known.now in
+    ensures exact { let m = manner.now in
+        let trees = map (tree_at table.old) known.now in
+        let added = goal_hint m.style.now.all m.bound trees (tree_at table.old goal) in
         AreFormTerms trees → IsFormTerm (tree_at table.old goal) → OnOk result
-        (AreAdded bound table.old table.new lines.old.items
-        (goal_hint (is_some bound) trees (tree_at table.old goal)) lines.new.items) }
+        (AreAdded m.bound table.old table.new lines.old.items added lines.new.items) }
     ensures known { OnOk result (AreKnownLines table.new lines.new.items) }
     ensures extends { Extends table.old table.new }
     ensures search { OnOk result (IsSearch table.new search.new) }
 {
-    let missing = missing_of(table, search, bound.is_some(), known, goal)?;
-    push_missing(table, bound, lines, missing.part, goal)?;
-    push_said(table, bound, lines, &missing.hint)?;
+    let bound = manner.bound;
+    let wanted = Wanted {
+        counted: bound.is_some(),
+        all: manner.style.all,
+    };
+    let parts = missing_parts(table, search, wanted, known, goal)?;
+    push_part_hints(table, search, bound, lines, known, parts.as_slice(), goal)?;
     Ok(())
 }

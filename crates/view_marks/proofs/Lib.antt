@@ -4,3 +4,5 @@ mod Descending
 mod Growing
 mod Gathering
 mod Leading
+mod Conjuncts
+mod Ahead

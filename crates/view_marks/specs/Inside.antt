@@ -2,5 +2,6 @@
 pub mod Shapes
 pub mod Marking
 pub mod Known
+pub mod Conjuncts
 pub mod Nearness
 pub mod Lasting

@@ -1,7 +1,8 @@
 //! Theorems about the marks of parts; nothing here runs.
 
 ghost use Rattle.std.specs.Prelude.{◌≡◌, ℕ, Bool, List, Option, map, length, is_some, ◌≤◌, ◌<◌};
-ghost use Rattle.std.specs.Prelude.{false};
+ghost use Rattle.std.specs.Prelude.{false, ◌∷◌, drop};
+ghost use Rattle.std.specs.List.{AllByRecursion};
 ghost use Rattle.prover_class.specs.Parts.{part_proof, first_not_easy};
 ghost use Rattle.view_goals.specs.Goals.{PartGoals};
 ghost use Rattle.view_marks.specs.Marks.{part_form, part_marks, count_of_goals, all_true};
@@ -11,7 +12,7 @@ ghost use Rattle.formula_tree.specs.Formulas.{Exp, Form, FRel};
 ghost use Rattle.prover_class.specs.Hypotheses.{Hyps};
 ghost use Rattle.prover_class.specs.Bounds.{upper_bound, lower_bound};
 ghost use Rattle.view_marks.specs.declared.marking.TheConstants.{PART_BINDERS};
-ghost use Rattle.view_marks.specs.Hints.{missing_part};
+ghost use Rattle.view_marks.specs.Hints.{missing_part, hard_parts};
 
 use prover_goals::round_laws;
 
@@ -30,14 +31,21 @@ pub fn mark_laws()
     round_laws();
 }
 
-/// States what a hint means. The missing conjunct of a goal that isn't easy isn't easy itself
-/// (`missing`). If `(ult a b)` isn't easy, the upper bound found for `a` isn't below the lower
+/// States what hints mean. The missing conjunct of a goal that isn't easy isn't easy itself
+/// (`missing`). No conjunct of those that are all missing is easy (`each`), and the first of them is
+/// that conjunct (`first`). If `(ult a b)` isn't easy, the upper bound found for `a` isn't below the lower
 /// bound found for `b` (`bounds`). If `(ule a b)` isn't easy, the upper bound found for `a` is
 /// above the lower bound found for `b` (`at_most`).
 pub fn hint_laws()
     ensures missing { (counted : Bool) (Γ : Hyps) (A : Form)
         → is_easy counted PART_BINDERS Γ A ≡ false
         → is_easy counted PART_BINDERS Γ (missing_part counted Γ A) ≡ false }
+    ensures each { (counted : Bool) (Γ : Hyps) (A : Form)
+        → AllByRecursion (λ M. is_easy counted PART_BINDERS Γ M ≡ false)
+        (hard_parts counted Γ A) }
+    ensures first { (counted : Bool) (Γ : Hyps) (A : Form)
+        → is_easy counted PART_BINDERS Γ A ≡ false → let parts = hard_parts counted Γ A in
+        parts ≡ missing_part counted Γ A ∷ drop 1 parts }
     ensures bounds { (counted : Bool) (Γ : Hyps) (a b : Exp)
         → is_easy counted PART_BINDERS Γ (FRel Ult a b) ≡ false
         → (lower_bound counted Γ b).value ≤ (upper_bound Γ a).value }

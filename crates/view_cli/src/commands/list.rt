@@ -35,8 +35,8 @@ pub enum Found {
     Not(u64, Flaw),
 }
 
-/// What the bytes are found to be. Errors: out of memory.
-fn found_in(alloc: Global, bytes: &[u8]) -> Result<Found, AllocError>
+/// Returns what the bytes are found to be. Errors: out of memory.
+pub fn found_in(alloc: Global, bytes: &[u8]) -> Result<Found, AllocError>
     ensures { IfOk result (IsFoundIn bytes.now) }
 {
     match read(alloc, bytes) {
@@ -96,7 +96,7 @@ fn lines_in<'a>(
 
 /// Returns the line numbers of the source in the file with this name, or none if no name is given.
 #[tactic(auto, unfolding(crate::specs::Commands::List::source_lines_of))]
-fn lines_of<'a, F: Files>(
+pub fn lines_of<'a, F: Files>(
     alloc: Global,
     version: u32,
     bound: Option<u32>,

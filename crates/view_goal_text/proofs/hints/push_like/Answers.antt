@@ -2,10 +2,9 @@ use Rattle.std.proofs.Common.{ℕ, ◌<◌, ◌≤◌, [], ◌∷◌, List, leng
 use Rattle.std.specs.Prelude.{codes}
 use Rattle.term_table.specs.Table.{IsKnown, tree_at}
 use Rattle.proof_container.proofs.Ordering.{known-get}
-use Rattle.view_goal_text.specs.Lines.{before}
-use Rattle.view_goal_text.specs.Inside.Shown.{AreAdded}
-use Rattle.view_goal_text.proofs.Growing.{grown-twice}
-use Rattle.view_goal_text.proofs.Adding.{grown-not, added-none, added-more}
+use Rattle.view_lines.specs.Lines.{before}
+use Rattle.view_lines.specs.Shown.{AreAdded}
+use Rattle.view_lines.proofs.Adding.{grown-not, added-none, added-more, grown-twice}
 use Rattle.view_goal_text.proofs.HintLines.{all-known, like-more}
 use Rattle.view_goal_text.proofs.hints.push_like.Goals as goal
 

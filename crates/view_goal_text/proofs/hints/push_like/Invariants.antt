@@ -1,8 +1,8 @@
 use Rattle.std.proofs.Common.{map, take}
 use Rattle.std.specs.Prelude.{codes}
 use Rattle.term_table.specs.Table.{AllKnown, tree_at, Extends}
-use Rattle.view_goal_text.specs.Lines.{before}
-use Rattle.view_goal_text.specs.Inside.Shown.{AreKnownLines, AreAdded}
+use Rattle.view_lines.specs.Lines.{before}
+use Rattle.view_lines.specs.Shown.{AreKnownLines, AreAdded}
 use Rattle.view_goal_text.proofs.hints.push_like.Given as goal
 
 abbrev pub invariant-loop-index : goal.invariant-loop-index

@@ -1,7 +1,7 @@
 use Rattle.std.proofs.Common.{[], ◌∷◌, length, sym, ◌∙◌, subst}
 use Rattle.std.proofs.lemmas.Bool.{eqb-true, eqb-false}
-use Rattle.view_goal_text.specs.Lines.{plain_line}
-use Rattle.view_goal_text.specs.Inside.Shown.{AreAdded}
+use Rattle.view_lines.specs.Lines.{plain_line}
+use Rattle.view_lines.specs.Shown.{AreAdded}
 use Rattle.view_goal_text.proofs.HintLines.{like-none, like-some}
 use Rattle.view_goal_text.proofs.hints.push_rights.Goals as goal
 

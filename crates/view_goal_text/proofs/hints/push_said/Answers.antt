@@ -1,7 +1,7 @@
 use Rattle.std.proofs.Common.{OnOk, sym, subst}
 use Rattle.view_marks.specs.Answers.{IsHint}
-use Rattle.view_goal_text.specs.Inside.Shown.{AreAdded}
-use Rattle.view_goal_text.proofs.Adding.{grown-not, added-none}
+use Rattle.view_lines.specs.Shown.{AreAdded}
+use Rattle.view_lines.proofs.Adding.{grown-not, added-none}
 use Rattle.view_goal_text.proofs.HintLines.{plain-said, bounds-said}
 use Rattle.view_goal_text.proofs.hints.push_said.Goals as goal
 
