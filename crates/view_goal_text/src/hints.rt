@@ -13,7 +13,8 @@ ghost use Rattle.view_labels.specs.Labels.{bounds_label};
 ghost use Rattle.view_marks.specs.Hints.{HintView, known_hyps};
 ghost use Rattle.view_marks.specs.Answers.{IsHint, IsKnownHint};
 ghost use Rattle.view_lines.specs.Lines.{plain_line, before};
-ghost use Rattle.view_goal_text.specs.Hints.{missing_label, missing_lines, like_lines, said_lines};
+ghost use Rattle.view_goal_text.specs.Hints.{missing_label, missing_lines, half_text, half_lines};
+ghost use Rattle.view_goal_text.specs.Hints.{like_line, each_like, like_lines, said_lines};
 ghost use Rattle.view_goal_text.specs.Hints.{part_hint, part_hints, goal_hint};
 ghost use Rattle.view_goal_text.specs.Inside.FormTerms.{IsFormTerm, AreFormTerms};
 ghost use Rattle.view_lines.specs.Shown.{AreKnownLines, AreAdded};
@@ -25,7 +26,14 @@ use std::alloc::{AllocError, Global};
 use term_table::{Id, Table};
 use view_labels::{bounds_label, label_of};
 use view_lines::{ShownLine, is_false_term, push_formula, push_words};
-use view_marks::{Hint, Wanted, hint_about, missing_parts};
+use view_marks::{Half, Hint, Wanted, half_of, hint_about, missing_parts};
+
+/// A missing part of a goal, and the step bound.
+#[derive(Clone, Copy)]
+struct Missing {
+    bound: Option<u32>,
+    part: Id,
+}
 
 /// What is printed before a missing part, which is false by computing or not.
 fn missing_label(alloc: Global, wrong: bool) -> Result<Vec<u8>, AllocError>
@@ -76,43 +84,115 @@ fn id_at(table: &Table, ids: &[Id], index: usize) -> Id
     ids[index]
 }
 
-/// Adds a line for each formula that gives rights to addresses with equal summands.
+/// What is said of a half that isn't easy.
+fn half_label(alloc: Global, half: Half) -> Result<Vec<u8>, AllocError>
+    ensures { IfOk result (λ v. v.items ≡ half_text half) }
+{
+    match half {
+        Half::Premise => label_of(alloc, "    its premise isn't easy"),
+        Half::Conclusion => label_of(alloc, "    its address is another"),
+    }
+}
+
+/// The line of the half of a hypothesis that isn't easy, if it is an implication.
+fn push_half(
+    table: &Table,
+    lines: &mut Vec<ShownLine>,
+    half: Option<Half>,
+) -> Result<(), AllocError>
+    requires { AreKnownLines table.now lines.old.items }
+    ensures exact { (bound : Option ℕ) → OnOk result
+        (AreAdded bound table.now table.now lines.old.items (half_lines half) lines.new.items) }
+    ensures known { OnOk result (AreKnownLines table.now lines.new.items) }
+{
+    match half {
+        None => Ok(()),
+        Some(half) => {
+            let label = half_label(table.allocator(), half)?;
+            push_words(table, lines, label)?;
+            Ok(())
+        }
+    }
+}
+
+/// Adds the lines of a hypothesis that gives rights to addresses with equal summands.
+#[tactic(auto, using(prover_goals::proofs::Kept::rows))]
 fn push_like(
     table: &mut Table,
-    bound: Option<u32>,
+    search: &mut Search,
     lines: &mut Vec<ShownLine>,
-    ids: &[Id],
-) -> Result<(), AllocError>
+    missing: &Missing,
+    id: Id,
+) -> Result<(), Exhausted>
     requires lines { AreKnownLines table.old lines.old.items }
-    requires ids { AllKnown table.old ids.now }
-    ensures exact { let trees = map (tree_at table.old) ids.now in
-        let added = map (before (codes "  like it: ")) trees in
-        OnOk result (AreAdded bound table.old table.new lines.old.items added lines.new.items) }
+    requires missing { IsKnown table.old missing.now.part }
+    requires id { IsKnown table.old id }
+    requires search { IsSearch table.old search.old }
+    ensures exact { let m = missing.now in (M F : Form)
+        → tree_at table.old m.part ≡ form_encoding M → tree_at table.old id ≡ form_encoding F
+        → OnOk result (AreAdded m.bound table.old table.new lines.old.items
+        (like_line (is_some m.bound) M F) lines.new.items) }
     ensures known { OnOk result (AreKnownLines table.new lines.new.items) }
     ensures extends { Extends table.old table.new }
+    ensures search { OnOk result (IsSearch table.new search.new) }
+{
+    let bound = missing.bound;
+    let half = half_of(table, search, bound.is_some(), id, missing.part)?;
+    let label = label_of(table.allocator(), "  like it: ")?;
+    push_formula(table, bound, lines, label, id)?;
+    push_half(table, lines, half)?;
+    Ok(())
+}
+
+/// Adds the lines of each hypothesis that gives rights to addresses with equal summands.
+fn push_each_like(
+    table: &mut Table,
+    search: &mut Search,
+    lines: &mut Vec<ShownLine>,
+    missing: &Missing,
+    ids: &[Id],
+) -> Result<(), Exhausted>
+    requires lines { AreKnownLines table.old lines.old.items }
+    requires missing { IsKnown table.old missing.now.part }
+    requires ids { AllKnown table.old ids.now }
+    requires search { IsSearch table.old search.old }
+    ensures exact { let m = missing.now in (M : Form) (Fs : List Form)
+        → tree_at table.old m.part ≡ form_encoding M
+        → map (tree_at table.old) ids.now ≡ map form_encoding Fs
+        → OnOk result (AreAdded m.bound table.old table.new lines.old.items
+        (each_like (is_some m.bound) M Fs) lines.new.items) }
+    ensures known { OnOk result (AreKnownLines table.new lines.new.items) }
+    ensures extends { Extends table.old table.new }
+    ensures search { OnOk result (IsSearch table.new search.new) }
 {
     for index in 0..ids.len() {
         let id = id_at(table, ids, index);
-        let label = label_of(table.allocator(), "  like it: ")?;
-        push_formula(table, bound, lines, label, id)?;
+        push_like(table, search, lines, missing, id)?;
     }
     Ok(())
 }
 
-/// Adds a line for each formula that gives rights to addresses with equal summands, or a line that
-/// there is none.
+/// Adds the lines of each hypothesis that gives rights to addresses with equal summands, or a line
+/// that there is none.
 fn push_rights(
     table: &mut Table,
-    bound: Option<u32>,
+    search: &mut Search,
     lines: &mut Vec<ShownLine>,
+    missing: &Missing,
     ids: &[Id],
-) -> Result<(), AllocError>
+) -> Result<(), Exhausted>
     requires lines { AreKnownLines table.old lines.old.items }
+    requires missing { IsKnown table.old missing.now.part }
     requires ids { AllKnown table.old ids.now }
-    ensures exact { let added = like_lines (map (tree_at table.old) ids.now) in
-        OnOk result (AreAdded bound table.old table.new lines.old.items added lines.new.items) }
+    requires search { IsSearch table.old search.old }
+    ensures exact { let m = missing.now in (M : Form) (Fs : List Form)
+        → tree_at table.old m.part ≡ form_encoding M
+        → map (tree_at table.old) ids.now ≡ map form_encoding Fs
+        → OnOk result (AreAdded m.bound table.old table.new lines.old.items
+        (like_lines (is_some m.bound) M Fs) lines.new.items) }
     ensures known { OnOk result (AreKnownLines table.new lines.new.items) }
     ensures extends { Extends table.old table.new }
+    ensures search { OnOk result (IsSearch table.new search.new) }
 {
     let none = ids.is_empty();
     if none {
@@ -121,7 +201,7 @@ fn push_rights(
         push_words(table, lines, label)?;
         return Ok(());
     }
-    push_like(table, bound, lines, ids)?;
+    push_each_like(table, search, lines, missing, ids)?;
     Ok(())
 }
 
@@ -146,21 +226,27 @@ fn push_bounds(
 /// What is said of the missing part.
 fn push_said(
     table: &mut Table,
-    bound: Option<u32>,
+    search: &mut Search,
     lines: &mut Vec<ShownLine>,
+    missing: &Missing,
     hint: &Hint,
-) -> Result<(), AllocError>
+) -> Result<(), Exhausted>
     requires lines { AreKnownLines table.old lines.old.items }
+    requires missing { IsKnown table.old missing.now.part }
     requires hint { IsKnownHint table.old hint.now }
-    ensures exact { (view : HintView) → IsHint table.old view hint.now → OnOk result
-        (AreAdded bound table.old table.new lines.old.items (said_lines view) lines.new.items) }
+    requires search { IsSearch table.old search.old }
+    ensures exact { let m = missing.now in (M : Form) (view : HintView)
+        → tree_at table.old m.part ≡ form_encoding M → IsHint table.old view hint.now
+        → OnOk result (AreAdded m.bound table.old table.new lines.old.items
+        (said_lines (is_some m.bound) M view) lines.new.items) }
     ensures known { OnOk result (AreKnownLines table.new lines.new.items) }
     ensures extends { Extends table.old table.new }
+    ensures search { OnOk result (IsSearch table.new search.new) }
 {
     match hint {
         Hint::Plain => Ok(()),
-        Hint::Bounds(upper, lower) => push_bounds(table, lines, *upper, *lower),
-        Hint::Rights(ids) => push_rights(table, bound, lines, ids.as_slice()),
+        Hint::Bounds(upper, lower) => Ok(push_bounds(table, lines, *upper, *lower)?),
+        Hint::Rights(ids) => push_rights(table, search, lines, missing, ids.as_slice()),
     }
 }
 
@@ -191,7 +277,8 @@ fn push_part_hint(
 {
     let hint = hint_about(table, search, bound.is_some(), known, part)?;
     push_missing(table, bound, lines, part, goal)?;
-    push_said(table, bound, lines, &hint)?;
+    let missing = Missing { bound, part };
+    push_said(table, search, lines, &missing, &hint)?;
     Ok(())
 }
 

@@ -8,6 +8,7 @@ ghost use Rattle.std.specs.Prelude.{true, not, take, drop, length, Option, IfOk}
 ghost use Rattle.term_table.specs.Table.{IsKnown, AllKnown, tree_at, Extends};
 ghost use Rattle.prover_goals.specs.Search.{IsSearch};
 ghost use Rattle.view_goals.specs.Rows.{row_view, HasKnownId};
+ghost use Rattle.view_marks.specs.Looking.{is_hard};
 ghost use Rattle.view_labels.specs.Labels.{goal_label, known_label};
 ghost use Rattle.view_lines.specs.Formulas.{is_false_term};
 ghost use Rattle.view_lines.specs.Lines.{before};
@@ -40,6 +41,8 @@ struct Told {
     easy: bool,
     /// Whether hints are.
     hints: bool,
+    /// Whether it is a goal that isn't easy.
+    hard: bool,
 }
 
 /// The mark of a goal that isn't easy.
@@ -171,11 +174,12 @@ fn push_listed(
     ensures known { OnOk result (AreKnownLines table.new lines.new.items) }
     ensures extends { Extends table.old table.new }
 {
-    if told.line {
-        push_row(table, manner, lines, row, told.easy)
-    } else {
-        Ok(())
+    let line = told.line;
+    if !line {
+        return Ok(());
     }
+    push_row(table, manner, lines, row, told.easy)?;
+    Ok(())
 }
 
 /// Whether a hint is due, and the goal hard.
@@ -183,6 +187,23 @@ fn is_wanted(due: bool, hard: bool) -> bool
     ensures { result ≡ (due && hard) }
 {
     due && hard
+}
+
+/// What is printed of a row, which is listed or not and easy or not, if hints are due or not.
+fn told_of(table: &Table, row: &Row, line: bool, easy: bool, due: bool) -> Told
+    ensures line { result.line ≡ line }
+    ensures easy { result.easy ≡ easy }
+    ensures hints { result.hints ≡ (due && is_hard (row_view table.now row.now) easy) }
+    ensures hard { result.hard ≡ is_hard (row_view table.now row.now) easy }
+{
+    let hard = is_hard(table, row, easy);
+    let hints = is_wanted(due, hard);
+    Told {
+        line,
+        easy,
+        hints,
+        hard,
+    }
 }
 
 /// Whether hints are due still: if all that is missing is told, always.
@@ -378,24 +399,17 @@ pub(crate) fn push_rows(
     let mut known = Vec::new(table.allocator());
     known.push(start)?;
     let mut due = true;
-    let mut place: usize = 0;
+    let mut goal: usize = 0;
     for index in 0..rows.len() {
         let row = rows[index];
-        let at = Place {
-            row: index,
-            goal: place,
-        };
+        let at = Place { row: index, goal };
         let line = is_listed(table, manner, rows, marks, at);
-        let count = goal_count(table, &row);
-        let easy = mark_at(marks, place);
-        let hard = is_hard(table, &row, easy);
-        let hints = is_wanted(due, hard);
-        let told = Told { line, easy, hints };
-        let here = known.as_slice();
-        push_row_lines(table, search, manner, lines, told, here, &row)?;
+        let easy = mark_at(marks, goal);
+        let told = told_of(table, &row, line, easy, due);
+        push_row_lines(table, search, manner, lines, told, known.as_slice(), &row)?;
         learn(&mut known, table, &row)?;
-        due = stays_due(manner.style.all, due, hard);
-        place += count;
+        due = stays_due(manner.style.all, due, told.hard);
+        goal += goal_count(table, &row);
     }
     Ok(())
 }

@@ -6,3 +6,4 @@ mod Gathering
 mod Leading
 mod Conjuncts
 mod Ahead
+mod Granting

@@ -4,4 +4,5 @@ pub mod Marking
 pub mod Known
 pub mod Conjuncts
 pub mod Nearness
+pub mod Halves
 pub mod Lasting

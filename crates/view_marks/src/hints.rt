@@ -21,7 +21,7 @@ ghost use Rattle.view_marks.specs.declared.marking.TheConstants.{PART_BINDERS};
 ghost use Rattle.view_marks.specs.Hints.{known_hyps, missing_part, missing_parts};
 ghost use Rattle.view_marks.specs.Hints.{Bounds, hint_of};
 ghost use Rattle.view_marks.specs.Answers.{IsHint, IsKnownHint};
-ghost use Rattle.view_marks.specs.Inside.Conjuncts.{AreSides, AreHardParts};
+ghost use Rattle.view_marks.specs.Inside.Conjuncts.{HasSides, AreHardParts};
 ghost use Rattle.view_marks.specs.Inside.Nearness.{access_at};
 
 use crate::PART_BINDERS;
@@ -76,7 +76,7 @@ fn add_formula(table: &mut Table, hyps: &mut Hypotheses, k: u32, form: Id) -> Re
 }
 
 /// The hypotheses that known formulas are split into.
-fn hypotheses_of(table: &mut Table, known: &[Id]) -> Result<Hypotheses, Exhausted>
+pub(crate) fn hypotheses_of(table: &mut Table, known: &[Id]) -> Result<Hypotheses, Exhausted>
     requires { AllKnown table.old known.now }
     ensures known { IfOk result (AreKnownHyps table.new) }
     ensures exact { (Fs : List Form) → map (tree_at table.old) known.now ≡ map form_encoding Fs
@@ -139,7 +139,7 @@ fn missing_part(
 fn sides_of(table: &Table, id: Id) -> Option<Sides>
     requires { IsKnown table.now id }
     ensures is { (A : Form) → tree_at table.now id ≡ form_encoding A
-        → AreSides table.now A result }
+        → HasSides table.now A result }
     ensures below { IfSome result (λ s. (s.left < id) × (s.right < id)) }
 {
     match form_node(table, id) {
@@ -166,7 +166,7 @@ fn alone(table: &Table, goal: Id) -> Result<Vec<Id>, AllocError>
 }
 
 /// Returns the conjuncts of `goal` that aren't easy, in order.
-#[tactic(auto, using(prover_goals::proofs::Kept::rows))]
+#[tactic(auto, using(prover_goals::proofs::WordRows::rows))]
 fn hard_parts(
     table: &mut Table,
     search: &mut Search,
@@ -190,7 +190,10 @@ fn hard_parts(
         return Ok(Vec::new(table.allocator()));
     }
     match sides_of(table, goal) {
-        None => Ok(alone(table, goal)?),
+        None => {
+            let whole = alone(table, goal)?;
+            Ok(whole)
+        }
         Some(sides) => {
             let mut parts = hard_parts(table, search, context, counted, sides.left)?;
             let others = hard_parts(table, search, context, counted, sides.right)?;
@@ -221,7 +224,8 @@ fn first_part(
     ensures search { OnOk result (IsSearch table.new search.new) }
 {
     let part = missing_part(table, search, context, counted, goal)?;
-    Ok(alone(table, part)?)
+    let parts = alone(table, part)?;
+    Ok(parts)
 }
 
 /// Returns the missing conjuncts of `goal`: all, or the first alone.
@@ -245,12 +249,13 @@ fn parts_in(
     ensures extends { Extends table.old table.new }
     ensures search { OnOk result (IsSearch table.new search.new) }
 {
-    if wanted.all {
-        let parts = hard_parts(table, search, context, wanted.counted, goal)?;
-        return Ok(parts);
+    let all = wanted.all;
+    if all {
+        let hard = hard_parts(table, search, context, wanted.counted, goal)?;
+        return Ok(hard);
     }
-    let parts = first_part(table, search, context, wanted.counted, goal)?;
-    Ok(parts)
+    let first = first_part(table, search, context, wanted.counted, goal)?;
+    Ok(first)
 }
 
 /// The bounds that are found of both sides of a comparison.

@@ -16,9 +16,9 @@ is_conjunction (FAnd A B) = true
 is_conjunction A = false
 
 -- the ids stand for the sides of the formula, or it is no conjunction
-abbrev pub AreSides : TableView → Form → Option Sides → Type 0
-AreSides t A None = is_conjunction A ≡ false
-AreSides t A (Some s) = IsJoin t A FAnd s.left s.right
+abbrev pub HasSides : TableView → Form → Option Sides → Type 0
+HasSides t A None = is_conjunction A ≡ false
+HasSides t A (Some s) = IsJoin t A FAnd s.left s.right
 
 -- the ids stand for the conjuncts of the goal that aren't easy, whatever goal and hypotheses the other
 -- ids stand for

@@ -51,7 +51,7 @@ loop-index-preserved c =
     let rows : List Row = c.args.rows.now in
     let marks = c.args.marks.now in
     let i = c.loop-index.index in
-    let j = c.loop-index.place in
+    let j = c.loop-index.goal in
     let due = c.loop-index.due in
     let x : Row = c.index-rows-index.result in
     let lt : i < length rows = search rules in
@@ -67,20 +67,23 @@ loop-index-preserved c =
     let r = row_view t x in
     let easy = slice_index_or marks j false in
     let mark = c.mark_at-easy.ensures in
-    let hard : c.is_hard-hard.result ≡ is_hard r easy =
-    c.is_hard-hard.ensures ∙ (λ k. is_hard (same k) (mark k)) in
-    let wanted : c.is_wanted-hints.result ≡ (due && is_hard r easy) =
-    c.is_wanted-hints.ensures ∙ ap (λ b. due && b) hard in
+    let told = c.told_of-told in
+    let hard : told.result.hard ≡ is_hard r easy =
+    told.ensures.hard ∙ (λ k. is_hard (same k) (mark k)) in
+    let wanted : told.result.hints ≡ (due && is_hard r easy) =
+    told.ensures.hints ∙ (λ k. due && is_hard (same k) (mark k)) in
+    let easy_is : told.result.easy ≡ easy = told.ensures.easy ∙ mark in
     let still : c.stays_due-due.result ≡ (due && (s.all || not (is_hard r easy))) =
     c.stays_due-due.ensures ∙ ap (λ b. due && (s.all || not b)) hard in
-    let listed : c.is_listed-line.result ≡ is_row_listed s.only_missing (map (row_view t) (drop i rows)) (drop j marks) =
-    c.is_listed-line.ensures
+    let listed : told.result.line ≡ is_row_listed s.only_missing (map (row_view t) (drop i rows)) (drop j marks) =
+    told.ensures.line ∙ c.is_listed-line.ensures
     ∙ ap (λ l. is_row_listed s.only_missing l (drop j marks))
     (rows-more t u inv.extends (drop i rows) (rows-behind t i rows c.requires.rows)) in
-    let count : c.goal_count-count.result ≡ goal_count r = c.goal_count-count.ensures.exact ∙ ap goal_count same in
-    let here : c.as_slice-here.result.now ≡ ids = c.as_slice-here.ensures.value in
+    let here : c.as_slice.result.now ≡ ids = c.as_slice.ensures.value in
     let trees : List Tree = map (tree_at u) ids in
     let wider = grown-twice t u v inv.extends grown in
+    let count : c.goal_count-goal.result ≡ goal_count r =
+    c.goal_count-goal.ensures.exact ∙ ap goal_count (row-more t v wider x known) in
     let learnt : map (tree_at v) c.learn.new.known.items ≡ known_after trees r =
     c.in_ok-learn.ensures.exact
     ∙ (λ k. known_after (all-more u v grown ids inv.ids k) (row-more t v wider x known k)) in
@@ -88,7 +91,7 @@ loop-index-preserved c =
     ++ map (shown_line bound)
     (row_lines s bound true (tree_at t c.args.start ∷ []) (map (row_view t) rows) marks) in record {
       extends = wider;
-      place = omega (arith, inv.place, c.goal_count-count.ensures.one);
+      place = omega (arith, inv.place, c.goal_count-goal.ensures.one);
       lines = c.in_ok-push_row_lines.ensures.known;
       ids = c.in_ok-learn.ensures.known;
       search = c.in_ok-push_row_lines.ensures.search;
@@ -102,7 +105,7 @@ loop-index-preserved c =
           (subst IsFormRow (sym same) row)
           ∙ (λ k. map (line_view u) old
           ++ map (shown_line bound)
-          (listed_line bound s.lines (listed k) (same k) (mark k)
+          (listed_line bound s.lines (listed k) (same k) (easy_is k)
           ++ row_hint s.all bound (wanted k) (map (tree_at u) (here k)) (same k))) in
           let step = row-step s bound t u v due trees rows marks i j x old new whole split added so_far.1 in (
             subst AreFormTerms (sym learnt) (known-forms trees r so_far.0 row),

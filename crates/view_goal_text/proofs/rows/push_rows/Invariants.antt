@@ -11,7 +11,7 @@ use Rattle.view_goal_text.proofs.rows.push_rows.Given as goal
 abbrev pub invariant-loop-index : goal.invariant-loop-index
 invariant-loop-index l = record {
   extends : Extends l.initial.table l.table;
-  place : l.place ≤ l.index;
+  place : l.goal ≤ l.index;
   lines : AreKnownLines l.table l.lines.items;
   ids : AllKnown l.table l.known.items;
   search : IsSearch l.table l.search;
@@ -20,7 +20,7 @@ invariant-loop-index l = record {
       × (map (line_view l.table) l.lines.items
       ++ map (shown_line l.manner.bound)
       (row_lines (style_view l.manner.style.now) l.manner.bound l.due (map (tree_at l.table) l.known.items)
-      (map (row_view l.initial.table) (drop l.index l.rows)) (drop l.place l.marks))
+      (map (row_view l.initial.table) (drop l.index l.rows)) (drop l.goal l.marks))
       ≡ map (line_view l.initial.table) l.initial.lines.items
       ++ map (shown_line l.manner.bound)
       (row_lines (style_view l.manner.style.now) l.manner.bound true (tree_at l.initial.table l.fn.start ∷ [])
