@@ -1,5 +1,6 @@
 -- What the listing says of a goal that isn't easy: what is missing.
 use Rattle.std.specs.Prelude.{ℕ, Bool, if◌then◌else◌, List, [], ◌∷◌, ◌++◌, codes, map, Option, Some, None, is_some}
+use Rattle.std.specs.List.{flat_map}
 use Rattle.term_table.specs.Tree.{Tree}
 use Rattle.term_table.specs.Equality.{tree_eq}
 use Rattle.formula_tree.specs.Formulas.{Form}
@@ -38,15 +39,10 @@ abbrev pub like_line : Bool → Form → Form → List GoalLine
 like_line counted M F =
     before (codes "  like it: ") (form_encoding F) ∷ half_lines (half_of counted M F)
 
--- each of these hypotheses
-abbrev pub each_like : Bool → Form → List Form → List GoalLine
-each_like counted M [] = []
-each_like counted M (F ∷ Fs) = like_line counted M F ++ each_like counted M Fs
-
 -- these hypotheses, or that there is none
 abbrev pub like_lines : Bool → Form → List Form → List GoalLine
 like_lines counted M [] = plain_line (codes "  nothing known has this address's summands") ∷ []
-like_lines counted M (F ∷ Fs) = each_like counted M (F ∷ Fs)
+like_lines counted M (F ∷ Fs) = flat_map (like_line counted M) (F ∷ Fs)
 
 -- what is said of the missing part M
 abbrev pub said_lines : Bool → Form → HintView → List GoalLine

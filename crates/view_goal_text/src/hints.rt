@@ -3,8 +3,9 @@
 //! Errors: out of memory, and `Results` if the search would cache more than it may; every id keeps
 //! its tree.
 
-ghost use Rattle.std.specs.Prelude.{◌≡◌, ◌<◌, ◌∷◌, [], ℕ, List, Option, is_some, codes, map, length};
+ghost use Rattle.std.specs.Prelude.{◌≡◌, ◌<◌, ◌∷◌, [], ℕ, List, Option, is_some, map, length};
 ghost use Rattle.std.specs.Prelude.{get_or, IfOk, OnOk};
+ghost use Rattle.std.specs.List.{flat_map};
 ghost use Rattle.term_table.specs.Table.{IsKnown, AllKnown, tree_at, Extends};
 ghost use Rattle.formula_tree.specs.Formulas.{Form};
 ghost use Rattle.lf_terms.specs.Encoding.{form_encoding};
@@ -12,9 +13,9 @@ ghost use Rattle.prover_goals.specs.Search.{IsSearch};
 ghost use Rattle.view_labels.specs.Labels.{bounds_label};
 ghost use Rattle.view_marks.specs.Hints.{HintView, known_hyps};
 ghost use Rattle.view_marks.specs.Answers.{IsHint, IsKnownHint};
-ghost use Rattle.view_lines.specs.Lines.{plain_line, before};
+ghost use Rattle.view_lines.specs.Lines.{plain_line};
 ghost use Rattle.view_goal_text.specs.Hints.{missing_label, missing_lines, half_text, half_lines};
-ghost use Rattle.view_goal_text.specs.Hints.{like_line, each_like, like_lines, said_lines};
+ghost use Rattle.view_goal_text.specs.Hints.{like_line, like_lines, said_lines};
 ghost use Rattle.view_goal_text.specs.Hints.{part_hint, part_hints, goal_hint};
 ghost use Rattle.view_goal_text.specs.Inside.FormTerms.{IsFormTerm, AreFormTerms};
 ghost use Rattle.view_lines.specs.Shown.{AreKnownLines, AreAdded};
@@ -94,6 +95,23 @@ fn half_label(alloc: Global, half: Half) -> Result<Vec<u8>, AllocError>
     }
 }
 
+/// The line of a half that isn't easy.
+fn push_half_text(
+    table: &Table,
+    lines: &mut Vec<ShownLine>,
+    half: Half,
+) -> Result<(), AllocError>
+    requires { AreKnownLines table.now lines.old.items }
+    ensures exact { (bound : Option ℕ) → OnOk result
+        (AreAdded bound table.now table.now lines.old.items (plain_line (half_text half) ∷ [])
+        lines.new.items) }
+    ensures known { OnOk result (AreKnownLines table.now lines.new.items) }
+{
+    let label = half_label(table.allocator(), half)?;
+    push_words(table, lines, label)?;
+    Ok(())
+}
+
 /// The line of the half of a hypothesis that isn't easy, if it is an implication.
 fn push_half(
     table: &Table,
@@ -107,11 +125,7 @@ fn push_half(
 {
     match half {
         None => Ok(()),
-        Some(half) => {
-            let label = half_label(table.allocator(), half)?;
-            push_words(table, lines, label)?;
-            Ok(())
-        }
+        Some(half) => push_half_text(table, lines, half),
     }
 }
 
@@ -160,7 +174,7 @@ fn push_each_like(
         → tree_at table.old m.part ≡ form_encoding M
         → map (tree_at table.old) ids.now ≡ map form_encoding Fs
         → OnOk result (AreAdded m.bound table.old table.new lines.old.items
-        (each_like (is_some m.bound) M Fs) lines.new.items) }
+        (flat_map (like_line (is_some m.bound) M) Fs) lines.new.items) }
     ensures known { OnOk result (AreKnownLines table.new lines.new.items) }
     ensures extends { Extends table.old table.new }
     ensures search { OnOk result (IsSearch table.new search.new) }
@@ -245,7 +259,10 @@ fn push_said(
 {
     match hint {
         Hint::Plain => Ok(()),
-        Hint::Bounds(upper, lower) => Ok(push_bounds(table, lines, *upper, *lower)?),
+        Hint::Bounds(upper, lower) => {
+            push_bounds(table, lines, *upper, *lower)?;
+            Ok(())
+        }
         Hint::Rights(ids) => push_rights(table, search, lines, missing, ids.as_slice()),
     }
 }

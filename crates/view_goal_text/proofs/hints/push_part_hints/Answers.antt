@@ -10,7 +10,7 @@ use Rattle.view_lines.proofs.Adding.{grown-not, grown-twice, id-known}
 use Rattle.view_marks.specs.Hints.{known_hyps}
 use Rattle.view_marks.proofs.Gathering.{form_at}
 use Rattle.view_goal_text.specs.Hints.{part_hint, part_hints}
-use Rattle.view_goal_text.proofs.HintLines.{all-known, all-more, hint-step}
+use Rattle.view_goal_text.proofs.HintLines.{all-known, all-more, one-step}
 use Rattle.view_goal_text.proofs.hints.push_part_hints.Goals as goal
 
 pub loop-index-init : goal.loop-index-init
@@ -57,7 +57,8 @@ loop-index-preserved c =
           let added : AreAdded bound u v mid (part_hint bound Γ it.now g) new =
           c.in_ok-push_part_hint.ensures.exact Fs it.now known_is part_is
           ∙ (λ k. map (line_view u) mid ++ map (shown_line bound) (part_hint bound Γ it.now (goal_is k))) in
-          hint-step bound u v Γ Ms i it.now g mid new _ it.rest added (inv.exact Fs Ms e f);
+          one-step bound u v (λ M. part_hint bound Γ M g) (λ Ns. part_hints bound Γ Ns g) (λ M Ns. refl)
+          Ms i it.now mid new _ it.rest added (inv.exact Fs Ms e f);
     }
 
 pub returns-clause-exact : goal.returns-clause-exact
