@@ -45,13 +45,14 @@ use Rattle.view_cli.specs.Texts.{view_texts, formula_too_long_line, absent_packe
 use Rattle.view_cli.specs.declared.limits.TheConstants.{MAX_FORMULA}
 use Rattle.view_cli.specs.Commands.Faults.{told_exit, formula_command, policy_command, source_command}
 use Rattle.view_cli.specs.Commands.Goals.{goals_found, goals_command}
-use Rattle.view_cli.specs.Commands.List.{lines_in, source_lines_of, listing_in, list_command}
-use Rattle.view_cli.specs.Looks.{look_of}
+use Rattle.view_container.specs.Beside.{BesideView}
+use Rattle.view_cli.specs.Commands.List.{beside_in, source_beside, listing_in, list_command}
+use Rattle.view_looks.specs.Looks.{look_of}
 use Rattle.view_cli.specs.Commands.Packet.{traced_exit, where_started, packet_command}
 use Rattle.view_cli.specs.Tasks.{standing_if_found, view_task}
 use Rattle.view_cli.proofs.CommandStages.{listing_stage, lines_stage, goals_stage, goals_under, last_stage, code_stage, policy_stage}
 use Rattle.view_cli.proofs.PureStages.{BeginsBefore, EndsAs, gave, refused_by, had_no_memory, refusal_begins, no_container_begins}
-use Rattle.view_cli.proofs.PureStages.{lines_in_end, code_end, packets_in_end, policy_in_end}
+use Rattle.view_cli.proofs.PureStages.{beside_in_end, code_end, packets_in_end, policy_in_end}
 
 -- a line that begins with another letter isn't that of an unknown policy
 other_line : (line : List ℕ) → BeginsBefore line → line ≢ unknown_policy_line
@@ -193,17 +194,17 @@ traced_fits names file packets k steps first second under =
 -- ---- all commands
 
 lines_fit : (names : List (List ℕ)) (c : Contents) (from : List ℕ) → Contains names from
-    → Fits names ((source_lines_of c.version c.bound (Some from) >>= listing_stage c) >>= ending)
-unfolding source_lines_of
+    → Fits names ((source_beside c.version c.bound (Some from) >>= listing_stage c) >>= ending)
+unfolding source_beside
 lines_fit names c from listed =
     reads_on names from MAX_SOURCE source_too_long_line
-    (λ b. (lines_in c.version c.bound b >>= listing_stage c) >>= ending) listed (omega arith) (λ b.
-    goes_on names (λ (y : Stage (List ℕ)). (y >>= listing_stage c) >>= ending) (λ exit. refl)
-    (lines_in c.version c.bound b) (lines_in_end c.version c.bound b) (λ lines. refl))
+    (λ b. (beside_in c.version c.bound b >>= listing_stage c) >>= ending) listed (omega arith) (λ b.
+    goes_on names (λ (y : Stage BesideView). (y >>= listing_stage c) >>= ending) (λ exit. refl)
+    (beside_in c.version c.bound b) (beside_in_end c.version c.bound b) (λ beside. refl))
 
 plain_fits : (names : List (List ℕ)) (c : Contents)
-    → Fits names ((source_lines_of c.version c.bound None >>= listing_stage c) >>= ending)
-unfolding source_lines_of
+    → Fits names ((source_beside c.version c.bound None >>= listing_stage c) >>= ending)
+unfolding source_beside
 plain_fits names c = refl
 
 listing_fits : (names : List (List ℕ)) (from : Option (List ℕ)) (b : List ℕ)

@@ -1,5 +1,4 @@
 pub mod Texts
-pub mod Looks
 pub mod Inside
 pub mod Commands
 pub mod Tasks

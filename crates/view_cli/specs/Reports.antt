@@ -4,7 +4,7 @@ use Rattle.pcc_stages.specs.Exits.{Exit}
 use Rattle.pcc_stages.specs.Requests.{usage_exit}
 use Rattle.pcc_stages.specs.Runs.{done_exit}
 use Rattle.pcc_stages.specs.Stages.Common.{refused}
-use Rattle.view_cli.specs.Looks.{no_container_text}
+use Rattle.view_looks.specs.Looks.{no_container_text}
 use Rattle.view_cli.specs.Texts.{help_text, version_text, formula_too_long_line, absent_packet_line, no_start_line, view_texts}
 use Rattle.view_cli.specs.declared.report.Report.{Report}
 use Rattle.view_cli.specs.declared.report.Report.TheVariants as report

@@ -18,7 +18,6 @@ mod arguments;
 mod builders;
 mod commands;
 mod limits;
-mod looks;
 mod report;
 mod texts;
 mod top_call;

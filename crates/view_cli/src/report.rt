@@ -4,13 +4,13 @@ ghost use Rattle.std.specs.Prelude.{◌≡◌};
 ghost use Rattle.file_port.specs.Sink.{Puts};
 ghost use Rattle.view_cli.specs.Reports.{exit_of_report};
 
-use crate::looks::{Look, print_no_container};
 use crate::texts::{
     print_formula_too_long, print_help, print_no_packet, print_no_start, print_usage, print_version,
 };
 use crate::trace_job::TraceJob;
 use file_port::{Put, Sink};
 use proof_container::Flaw;
+use view_looks::{Look, print_no_container};
 
 /// What a command prints, and with which exit status it ends.
 #[derive(Drop)]

@@ -66,6 +66,7 @@ fn lines_and_code(
 }
 
 /// The code of a source that was parsed.
+#[tactic(auto, using(crate::proofs::Codes::code_told, crate::proofs::Codes::flaw_told))]
 fn code_of(
     alloc: Global,
     version: u32,

@@ -12,7 +12,7 @@ use Rattle.pcc_stages.specs.Stage.{Stage, stops, gives, ◌>>=◌}
 use Rattle.pcc_stages.specs.Stages.Common.{refused}
 use Rattle.pcc_stages.specs.Stages.Containers.{container_bytes_of}
 use Rattle.view_cli.specs.Commands.Faults.{text_of}
-use Rattle.view_cli.specs.Looks.{look_of, no_container_text}
+use Rattle.view_looks.specs.Looks.{look_of, no_container_text}
 
 -- what is said of bytes that aren't a container
 abbrev pub unlisted_exit : List ℕ → Fault → Exit

@@ -18,7 +18,6 @@ ghost use Rattle.view_cli.specs.Reports.{exit_of_report};
 
 use crate::ListArgs;
 use crate::commands::faults::text_of;
-use crate::looks::look_of;
 use crate::report::Report;
 use file_port::Files;
 use pcc_gate::Refusal;
@@ -26,6 +25,7 @@ use pcc_stages::{MAX_FILE, RefusedLine, Stop, bytes_of};
 use proof_container::{Flaw, Malformed, read};
 use std::alloc::{AllocError, Global};
 use view_container::{Beside, ListFault, list};
+use view_looks::look_of;
 use view_source_faults::{CodeFault, SourceCode, source_code};
 
 /// What bytes are found to be that were read as a container.

@@ -5,9 +5,9 @@ ghost use Rattle.file_port.specs.Sink.{Puts};
 ghost use Rattle.packet_store.specs.PacketDecoding.{decoded_packets};
 ghost use Rattle.bpf_words.specs.Reading.{program_of};
 ghost use Rattle.pcc_stages.specs.declared.files.TheConstants.{MAX_FILE};
-ghost use Rattle.view_cli.specs.Looks.{begins_with, is_pcap, is_text_byte, is_text};
-ghost use Rattle.view_cli.specs.Looks.{look_of, look_line};
-ghost use Rattle.view_cli.specs.Looks.{no_container_text};
+ghost use Rattle.view_looks.specs.Looks.{begins_with, is_pcap, is_text_byte, is_text};
+ghost use Rattle.view_looks.specs.Looks.{look_of, look_line};
+ghost use Rattle.view_looks.specs.Looks.{no_container_text};
 
 use bpf_words::{BpfFault, read_bpf};
 use file_port::{Put, Sink};

@@ -7,8 +7,8 @@ use Rattle.proof_container.specs.declared.fault.Flaw.{Flaw}
 use Rattle.pcc_gate.specs.declared.refusal.Refusal.TheVariants as refusal
 use Rattle.bpf_words.specs.Reading.{program_of}
 use Rattle.pcc_lines.specs.Refusals.{refusal_line}
-use Rattle.view_cli.specs.declared.looks.Look.{Look}
-use Rattle.view_cli.specs.declared.looks.Look.TheVariants as look
+use Rattle.view_looks.specs.declared.looks.Look.{Look}
+use Rattle.view_looks.specs.declared.looks.Look.TheVariants as look
 
 -- the bytes begin with these
 abbrev pub begins_with : List ℕ → List ℕ → Bool

@@ -1,7 +1,7 @@
 use Rattle.pcc_gate.specs.declared.refusal.Refusal.TheVariants.{Malformed}
 use Rattle.file_port.proofs.PutLemmas.{part_fails, puts_then}
 use Rattle.pcc_lines.specs.Refusals.{refusal_line}
-use Rattle.view_cli.proofs.looks.print_no_container.Goals as goal
+use Rattle.view_looks.proofs.looks.print_no_container.Goals as goal
 
 pub returns-in-Done : goal.returns-in-Done
 returns-in-Done g c =
