@@ -78,29 +78,33 @@ use Rattle.pcc_stages.specs.Stages.Common.{refused, policy_found, ending}
 use Rattle.pcc_stages.specs.Stages.Containers.{code_in, code_of}
 use Rattle.pcc_stages.specs.Stages.Packets.{packets_found, packets_in, packets_of}
 use Rattle.pcc_stages.specs.Stages.Policies.{no_policy_spelled, policy_spelled, policy_in, policy_from, policy_told}
+use Rattle.view_container.specs.Beside.{BesideView, nothing_beside, first_other}
+use Rattle.view_source_faults.specs.SourceCode.{LinesAndCode, WrongLine, source_code}
 use Rattle.view_cli.specs.Invocations.{ViewInvocation}
 use Rattle.view_cli.specs.Invocations as views
 use Rattle.view_cli.specs.Texts.{view_texts, formula_too_long_line}
 use Rattle.view_cli.specs.declared.limits.TheConstants.{MAX_FORMULA}
 use Rattle.view_cli.specs.Commands.Faults.{told_exit, formula_command, policy_command, source_command}
-use Rattle.view_cli.specs.Commands.Goals.{goals_found, lines_beside, style_of, goals_styled, goals_command}
-use Rattle.view_cli.specs.Commands.List.{lines_found, lines_in, source_lines_of, listing_in, list_command}
+use Rattle.view_cli.specs.Commands.Goals.{goals_found, source_read, style_of, goals_styled, goals_command}
+use Rattle.view_cli.specs.Commands.List.{beside_found, beside_in, source_beside, listing_in, list_command}
 use Rattle.view_cli.specs.Commands.Packet.{traced_exit, where_started, packet_command}
 use Rattle.view_cli.specs.Tasks.{view_task}
-use Rattle.view_cli.specs.Headline.{IsToldBy, AreLinesOf, ListsContents, first_hard_part, ListsGoals, EndsWithLine, TracesPacket}
+use Rattle.view_cli.specs.Headline.{IsToldBy, IsBeside, ListsContents, first_hard_part, ListsGoals, EndsWithLine, TracesPacket}
 use Rattle.view_cli.specs.Headline.{SaysOfForm, SaysOfPolicy, IsToldWithMark, SaysOfSource, SaysOf, SaysOfText, IsShown, RunShows}
 use Rattle.view_cli.specs.Headline.{came_to, ran_out, ShowsIfCommand}
 use Rattle.view_cli.proofs.Always.{Always, always_comes}
 use Rattle.view_cli.proofs.CommandStages.{listing_stage, lines_stage, goals_stage, goals_under, last_stage, code_stage, policy_stage}
 use Rattle.view_cli.proofs.LineNumbers.{line_numbers}
+use Rattle.view_cli.proofs.SourceCodes.{of_source, none_noted}
 use Rattle.view_cli.proofs.PureStages.{EndsAs, gave, refused_by, had_no_memory, code_end, packets_in_end, policy_in_end}
 
 -- what the definitions beneath are worth
 pub record ViewLaws : Type 0 where
   pub contents : (bytes : List ℕ) (c : Contents) → IsBytes bytes
       → EncodesContents bytes c ↔ (decoded_container bytes ≡ Ok c)
-  pub listed : (c : Contents) (lines text : List ℕ) → IsContents c → AreLineNumbers lines
-      → source_listing c lines ≡ Ok text → IsListedSource c lines text
+  pub listed : (c : Contents) (beside : BesideView) (text : List ℕ) → IsContents c
+      → AreLineNumbers beside.lines → source_listing c beside ≡ Ok text → IsListedSource c beside text
+  pub same : (code other : List ℕ) → (first_other code other ≡ None) ↔ (code ≡ other)
   pub policies : (bytes : List ℕ) (policy : PolicyView)
       → SpellsPolicy bytes policy ↔ (policy_read bytes ≡ Ok policy)
   pub forms : (p : Profile) (left : Bool) (text : List ℕ) (F : Form)
@@ -185,59 +189,64 @@ module _ (laws : ViewLaws) (file : List ℕ) where
   Listed from b es text = ListsContents file from (was_read file MAX_FILE (whole b) ∷ es) text
 
   listed_beside : (from : Option (List ℕ)) (b : List ℕ) → IsBytes b → (c : Contents)
-      → decoded_container b ≡ Ok c → (later : List Event) (lines : List ℕ)
-      → AreLinesOf from c later lines → AreLineNumbers lines
-      → Listed from b later (listing_text c lines)
-  listed_beside from b octets c is later lines beside fit =
+      → decoded_container b ≡ Ok c → (later : List Event) (beside : BesideView)
+      → IsBeside from c later beside → AreLineNumbers beside.lines
+      → Listed from b later (listing_text c beside)
+  listed_beside from b octets c is later beside beside_is fit =
       let held : EncodesContents b c = (laws.contents b c octets).1 is in
       record {
         bytes = b;
         contents = c;
-        lines = lines;
+        beside = beside;
         later = later;
         reads = refl;
         holds = is;
-        beside = beside;
+        beside_is = beside_is;
         listing = refl;
-        assembled = λ t. laws.listed c lines t held.contents fit;
+        assembled = λ t. laws.listed c beside t held.contents fit;
+        same = λ code. none_noted laws.same c.code beside code;
       }
 
   list_plain : (b : List ℕ) → IsBytes b → (c : Contents) → decoded_container b ≡ Ok c
       → Always view_texts (Done (Listed None b)) (lines_stage None c >>= ending)
-  unfolding source_lines_of
+  unfolding source_beside
   list_plain b octets c is = (
     refl,
-    λ z. listed_beside None b octets c is [] [] (refl, refl) (λ i n at. absurd (none-some n at)),
+    λ z.
+        listed_beside None b octets c is [] nothing_beside (refl, refl)
+        (λ i n at. absurd (none-some n at)),
   )
 
   list_parsed : (b : List ℕ) → IsBytes b → (c : Contents) → decoded_container b ≡ Ok c
-      → (from text : List ℕ) → length text ≤ MAX_SOURCE → (r : Result Source (ℕ × LineFlaw))
-      → parsed_source (profile_of c.version) (is_some c.bound) text ≡ r
+      → (from text : List ℕ) → length text ≤ MAX_SOURCE → (r : Result LinesAndCode WrongLine)
+      → source_code c.version c.bound text ≡ r
       → Always view_texts
       (Done (λ es. Listed (Some from) b (was_read from MAX_SOURCE (whole text) ∷ es)))
-      ((lines_found r >>= listing_stage c) >>= ending)
-  list_parsed b octets c is from text short (Err fault) parsed = λ z. refused_none z
-  list_parsed b octets c is from text short (Ok s) parsed =
+      ((beside_found r >>= listing_stage c) >>= ending)
+  list_parsed b octets c is from text short (Err wrong) told = λ z. refused_none z
+  list_parsed b octets c is from text short (Ok x) told =
       let p = profile_of c.version in
-      let spelled : SpellsSource p (is_some c.bound) text s =
-      (laws.sources p (is_some c.bound) text s).1 parsed in (
+      let of = of_source c.version c.bound text x told in
+      let spelled : SpellsSource p (is_some c.bound) text of.source =
+      (laws.sources p (is_some c.bound) text of.source).1 of.parsed_is in
+      let fit = subst AreLineNumbers (sym of.lines)
+      (line_numbers p (is_some c.bound) text of.source short spelled) in (
         refl,
         λ z.
             listed_beside (Some from) b octets c is (was_read from MAX_SOURCE (whole text) ∷ [])
-            (map (λ insn. insn.0) s.insns) (text, s, refl, spelled, refl)
-            (line_numbers p (is_some c.bound) text s short spelled),
+            (record { lines = x.0; code = Some x.1 })
+            (text, of.source, of.code, refl, spelled, of.assembled, of.lines, ap Some of.bytes) fit,
       )
 
   list_with : (b : List ℕ) → IsBytes b → (c : Contents) → decoded_container b ≡ Ok c
       → (from : Option (List ℕ))
       → Always view_texts (Done (Listed from b)) (lines_stage from c >>= ending)
-  unfolding source_lines_of lines_in
+  unfolding source_beside beside_in
   list_with b octets c is None = list_plain b octets c is
   list_with b octets c is (Some from) =
       reads_on (Listed (Some from) b) from MAX_SOURCE source_too_long_line
-      (λ text. (lines_in c.version c.bound text >>= listing_stage c) >>= ending) (λ text _ short.
-      list_parsed b octets c is from text short
-      (parsed_source (profile_of c.version) (is_some c.bound) text) refl)
+      (λ text. (beside_in c.version c.bound text >>= listing_stage c) >>= ending) (λ text _ short.
+      list_parsed b octets c is from text short (source_code c.version c.bound text) refl)
 
   list_in : (from : Option (List ℕ)) (b : List ℕ) → IsBytes b → (r : Result Contents Fault)
       → decoded_container b ≡ r
@@ -378,12 +387,12 @@ module _ (laws : ViewLaws) (file : List ℕ) (word : PolicyWord) (only_missing a
       ListsGoals word file from only_missing all (told ++ was_read file MAX_FILE (whole b) ∷ es) text
 
   goals_listed : (from : Option (List ℕ)) (told : List Event) (under : PolicyView)
-      → IsToldBy word told under → (b : List ℕ) (later : List Event) (lines : List ℕ)
-      → ((c : Contents) → decoded_container b ≡ Ok c → AreLinesOf from c later lines)
-      → (text : List ℕ) → goals_of_bytes (style_of only_missing all lines) under b ≡ Ok text
+      → IsToldBy word told under → (b : List ℕ) (later : List Event) (beside : BesideView)
+      → ((c : Contents) → decoded_container b ≡ Ok c → IsBeside from c later beside)
+      → (text : List ℕ) → goals_of_bytes (style_of only_missing all beside.lines) under b ≡ Ok text
       → GoalsListed from told b later text
-  goals_listed from told under tells b later lines beside text is =
-      let s = style_of only_missing all lines in
+  goals_listed from told under tells b later beside beside_is text is =
+      let s = style_of only_missing all beside.lines in
       let l = listing s under b text is in
       let end = listing_end laws.first s under l.contents l.code in record {
         policy = under;
@@ -391,11 +400,11 @@ module _ (laws : ViewLaws) (file : List ℕ) (word : PolicyWord) (only_missing a
         bytes = b;
         contents = l.contents;
         code = l.code;
-        lines = lines;
+        beside = beside;
         later = later;
         reads = refl;
         tells = tells;
-        beside = beside l.contents l.holds;
+        beside_is = beside_is l.contents l.holds;
         listed = is;
         holds = l.holds;
         code_is = l.code_is;
@@ -406,28 +415,28 @@ module _ (laws : ViewLaws) (file : List ℕ) (word : PolicyWord) (only_missing a
 
   goals_parsed : (told : List Event) (under : PolicyView) → IsToldBy word told under → (b : List ℕ)
       (c : Contents) → decoded_container b ≡ Ok c → (from text : List ℕ)
-      → (r : Result Source (ℕ × LineFlaw))
-      → parsed_source (profile_of c.version) (is_some c.bound) text ≡ r
+      → (r : Result LinesAndCode WrongLine) → source_code c.version c.bound text ≡ r
       → Always view_texts
       (Done (λ es. GoalsListed (Some from) told b (was_read from MAX_SOURCE (whole text) ∷ es)))
-      ((lines_found r >>= goals_styled only_missing all under b) >>= ending)
-  goals_parsed told under tells b c is from text (Err fault) parsed = λ z. refused_none z
-  goals_parsed told under tells b c is from text (Ok s) parsed =
-      let lines = map (λ insn. insn.0) s.insns in
+      ((beside_found r >>= goals_styled only_missing all under b) >>= ending)
+  goals_parsed told under tells b c is from text (Err wrong) parsed = λ z. refused_none z
+  goals_parsed told under tells b c is from text (Ok x) parsed =
+      let beside : BesideView = record { lines = x.0; code = Some x.1 } in
       let later : List Event = was_read from MAX_SOURCE (whole text) ∷ [] in
-      let spelled : SpellsSource (profile_of c.version) (is_some c.bound) text s =
-      (laws.sources (profile_of c.version) (is_some c.bound) text s).1 parsed in
+      let of = of_source c.version c.bound text x parsed in
+      let spelled : SpellsSource (profile_of c.version) (is_some c.bound) text of.source =
+      (laws.sources (profile_of c.version) (is_some c.bound) text of.source).1 of.parsed_is in
       goals_out (λ es. GoalsListed (Some from) told b (was_read from MAX_SOURCE (whole text) ∷ es))
-      (goals_of_bytes (style_of only_missing all lines) under b) (λ out ok.
-      goals_listed (Some from) told under tells b later lines (λ d held.
-      subst (λ (k : Contents). AreLinesOf (Some from) k later lines) (contents_same c d (sym is ∙ held))
-      (text, s, refl, spelled, refl)) out ok)
+      (goals_of_bytes (style_of only_missing all beside.lines) under b) (λ out ok.
+      goals_listed (Some from) told under tells b later beside (λ d held.
+      subst (λ (k : Contents). IsBeside (Some from) k later beside) (contents_same c d (sym is ∙ held))
+      (text, of.source, of.code, refl, spelled, of.assembled, of.lines, ap Some of.bytes)) out ok)
 
   goals_in : (from : Option (List ℕ)) (told : List Event) (under : PolicyView)
       → IsToldBy word told under → (b : List ℕ) (r : Result Contents Fault) → decoded_container b ≡ r
       → Always view_texts (Done (GoalsListed from told b))
-      ((lines_beside from r >>= goals_styled only_missing all under b) >>= ending)
-  unfolding source_lines_of lines_in
+      ((source_read from r >>= goals_styled only_missing all under b) >>= ending)
+  unfolding source_beside beside_in
   goals_in from told under tells b (Err fault) is =
       goals_out (GoalsListed from told b) (goals_of_bytes (style_of only_missing all []) under b)
       (λ out ok.
@@ -435,13 +444,12 @@ module _ (laws : ViewLaws) (file : List ℕ) (word : PolicyWord) (only_missing a
       absurd (true≢false (ap is_ok (sym l.holds ∙ is))))
   goals_in None told under tells b (Ok c) is =
       goals_out (GoalsListed None told b) (goals_of_bytes (style_of only_missing all []) under b)
-      (λ out ok. goals_listed None told under tells b [] [] (λ d held. (refl, refl)) out ok)
+      (λ out ok. goals_listed None told under tells b [] nothing_beside (λ d held. (refl, refl)) out ok)
   goals_in (Some from) told under tells b (Ok c) is =
       reads_on (GoalsListed (Some from) told b) from MAX_SOURCE source_too_long_line
-      (λ text. (lines_in c.version c.bound text >>= goals_styled only_missing all under b) >>= ending)
+      (λ text. (beside_in c.version c.bound text >>= goals_styled only_missing all under b) >>= ending)
       (λ text octets short.
-      goals_parsed told under tells b c is from text
-      (parsed_source (profile_of c.version) (is_some c.bound) text) refl)
+      goals_parsed told under tells b c is from text (source_code c.version c.bound text) refl)
 
   goals_show : (from : Option (List ℕ))
       → Always view_texts (IsShown (views.goals word file from only_missing all))

@@ -44,14 +44,15 @@ use Rattle.view_cli.specs.Invocations as views
 use Rattle.view_cli.specs.Texts.{view_texts, formula_too_long_line, absent_packet_line, no_start_line}
 use Rattle.view_cli.specs.declared.limits.TheConstants.{MAX_FORMULA}
 use Rattle.view_cli.specs.Commands.Faults.{told_exit, formula_command, policy_command, source_command}
-use Rattle.view_cli.specs.Commands.Goals.{goals_found, lines_beside, style_of, goals_styled, goals_command}
-use Rattle.view_cli.specs.Commands.List.{lines_in, source_lines_of, listing_in, list_command}
+use Rattle.view_container.specs.Beside.{BesideView}
+use Rattle.view_cli.specs.Commands.Goals.{goals_found, source_read, style_of, goals_styled, goals_command}
+use Rattle.view_cli.specs.Commands.List.{beside_in, source_beside, listing_in, list_command}
 use Rattle.view_looks.specs.Looks.{look_of}
 use Rattle.view_cli.specs.Commands.Packet.{traced_exit, where_started, packet_command}
 use Rattle.view_cli.specs.Tasks.{standing_if_found, view_task}
 use Rattle.view_cli.proofs.CommandStages.{listing_stage, lines_stage, goals_stage, goals_under, last_stage, code_stage, policy_stage}
 use Rattle.view_cli.proofs.PureStages.{BeginsBefore, EndsAs, gave, refused_by, had_no_memory, refusal_begins, no_container_begins}
-use Rattle.view_cli.proofs.PureStages.{lines_in_end, code_end, packets_in_end, policy_in_end}
+use Rattle.view_cli.proofs.PureStages.{beside_in_end, code_end, packets_in_end, policy_in_end}
 
 -- a line that begins with another letter isn't that of an unknown policy
 other_line : (line : List ℕ) → BeginsBefore line → line ≢ unknown_policy_line
@@ -169,36 +170,36 @@ goals_found_fits : (names : List (List ℕ)) (r : Result (List ℕ) Refusal)
 goals_found_fits names (Ok text) = refl
 goals_found_fits names (Err r) = inl (stop_line (refusal_line r) (refusal_begins r))
 
--- behind the lines of SOURCE, which it may have
+-- behind SOURCE, which it may have
 goals_beside_fits : (names : List (List ℕ)) (from : List ℕ) (only_missing all : Bool)
     (under : PolicyView) (b : List ℕ) → Contains names from → (c : Contents)
-    → Fits names ((source_lines_of c.version c.bound (Some from) >>= goals_styled only_missing all under b) >>= ending)
-unfolding source_lines_of
+    → Fits names ((source_beside c.version c.bound (Some from) >>= goals_styled only_missing all under b) >>= ending)
+unfolding source_beside
 goals_beside_fits names from only_missing all under b listed c =
     reads_on names from MAX_SOURCE source_too_long_line
-    (λ text. (lines_in c.version c.bound text >>= goals_styled only_missing all under b) >>= ending) listed (omega arith)
-    (λ text. goes_on names (λ (y : Stage (List ℕ)). (y >>= goals_styled only_missing all under b) >>= ending)
-    (λ exit. refl) (lines_in c.version c.bound text) (lines_in_end c.version c.bound text)
-    (λ lines. goals_found_fits names (goals_of_bytes (style_of only_missing all lines) under b)))
+    (λ text. (beside_in c.version c.bound text >>= goals_styled only_missing all under b) >>= ending) listed (omega arith)
+    (λ text. goes_on names (λ (y : Stage BesideView). (y >>= goals_styled only_missing all under b) >>= ending)
+    (λ exit. refl) (beside_in c.version c.bound text) (beside_in_end c.version c.bound text)
+    (λ beside. goals_found_fits names (goals_of_bytes (style_of only_missing all beside.lines) under b)))
 
 goals_alone_fits : (names : List (List ℕ)) (only_missing all : Bool) (under : PolicyView) (b : List ℕ)
     (c : Contents)
-    → Fits names ((source_lines_of c.version c.bound None >>= goals_styled only_missing all under b) >>= ending)
-unfolding source_lines_of
+    → Fits names ((source_beside c.version c.bound None >>= goals_styled only_missing all under b) >>= ending)
+unfolding source_beside
 goals_alone_fits names only_missing all under b c =
     goals_found_fits names (goals_of_bytes (style_of only_missing all []) under b)
 
 goals_in_fits : (names : List (List ℕ)) (from : Option (List ℕ)) (only_missing all : Bool)
     (under : PolicyView) (b : List ℕ) (r : Result Contents Fault) → ((c : Contents)
-    → Fits names ((source_lines_of c.version c.bound from >>= goals_styled only_missing all under b) >>= ending))
-    → Fits names ((lines_beside from r >>= goals_styled only_missing all under b) >>= ending)
+    → Fits names ((source_beside c.version c.bound from >>= goals_styled only_missing all under b) >>= ending))
+    → Fits names ((source_read from r >>= goals_styled only_missing all under b) >>= ending)
 goals_in_fits names from only_missing all under b (Ok c) each = each c
 goals_in_fits names from only_missing all under b (Err fault) each =
     goals_found_fits names (goals_of_bytes (style_of only_missing all []) under b)
 
 goals_fits : (names : List (List ℕ)) (file : List ℕ) (from : Option (List ℕ)) (only_missing all : Bool)
     → Contains names file → ((under : PolicyView) (b : List ℕ) (c : Contents)
-    → Fits names ((source_lines_of c.version c.bound from >>= goals_styled only_missing all under b) >>= ending))
+    → Fits names ((source_beside c.version c.bound from >>= goals_styled only_missing all under b) >>= ending))
     → (under : PolicyView) → Fits names (goals_under from only_missing all file under >>= ending)
 goals_fits names file from only_missing all listed each under =
     reads_on names file MAX_FILE container_too_long_line
@@ -223,17 +224,17 @@ traced_fits names file packets k steps first second under =
 -- ---- all commands
 
 lines_fit : (names : List (List ℕ)) (c : Contents) (from : List ℕ) → Contains names from
-    → Fits names ((source_lines_of c.version c.bound (Some from) >>= listing_stage c) >>= ending)
-unfolding source_lines_of
+    → Fits names ((source_beside c.version c.bound (Some from) >>= listing_stage c) >>= ending)
+unfolding source_beside
 lines_fit names c from listed =
     reads_on names from MAX_SOURCE source_too_long_line
-    (λ b. (lines_in c.version c.bound b >>= listing_stage c) >>= ending) listed (omega arith) (λ b.
-    goes_on names (λ (y : Stage (List ℕ)). (y >>= listing_stage c) >>= ending) (λ exit. refl)
-    (lines_in c.version c.bound b) (lines_in_end c.version c.bound b) (λ lines. refl))
+    (λ b. (beside_in c.version c.bound b >>= listing_stage c) >>= ending) listed (omega arith) (λ b.
+    goes_on names (λ (y : Stage BesideView). (y >>= listing_stage c) >>= ending) (λ exit. refl)
+    (beside_in c.version c.bound b) (beside_in_end c.version c.bound b) (λ beside. refl))
 
 plain_fits : (names : List (List ℕ)) (c : Contents)
-    → Fits names ((source_lines_of c.version c.bound None >>= listing_stage c) >>= ending)
-unfolding source_lines_of
+    → Fits names ((source_beside c.version c.bound None >>= listing_stage c) >>= ending)
+unfolding source_beside
 plain_fits names c = refl
 
 listing_fits : (names : List (List ℕ)) (from : Option (List ℕ)) (b : List ℕ)
