@@ -17,7 +17,7 @@ use Rattle.pcc_stages.specs.Runs.{done_exit}
 use Rattle.pcc_stages.specs.Stage.{Stage, gives, ◌>>=◌}
 use Rattle.pcc_stages.specs.Stages.Containers.{container_bytes_of, code_of}
 use Rattle.pcc_stages.specs.Stages.Packets.{packets_of}
-use Rattle.view_cli.specs.Commands.Goals.{source_read, goals_styled}
+use Rattle.view_cli.specs.Commands.Goals.{beside_read, goals_styled}
 use Rattle.view_cli.specs.Commands.List.{source_beside, listing_in}
 use Rattle.view_cli.specs.Commands.Packet.{packet_exit}
 use Rattle.view_cli.specs.Inside.Founds.{beside_source}
@@ -52,7 +52,7 @@ bytes_stage from bytes = listing_in from bytes (decoded_container bytes)
 -- `goals`, behind the container's bytes
 abbrev pub goals_stage : Option (List ℕ) → Bool → Bool → PolicyView → List ℕ → Stage Exit
 goals_stage from only_missing all under bytes =
-    source_read from (decoded_container bytes) >>= goals_styled only_missing all under bytes
+    beside_read from (decoded_container bytes) >>= goals_styled only_missing all under bytes
 
 -- behind the policy
 abbrev pub goals_under : Option (List ℕ) → Bool → Bool → List ℕ → PolicyView → Stage Exit

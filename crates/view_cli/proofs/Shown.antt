@@ -85,7 +85,7 @@ use Rattle.view_cli.specs.Invocations as views
 use Rattle.view_cli.specs.Texts.{view_texts, formula_too_long_line}
 use Rattle.view_cli.specs.declared.limits.TheConstants.{MAX_FORMULA}
 use Rattle.view_cli.specs.Commands.Faults.{told_exit, formula_command, policy_command, source_command}
-use Rattle.view_cli.specs.Commands.Goals.{goals_found, source_read, style_of, goals_styled, goals_command}
+use Rattle.view_cli.specs.Commands.Goals.{goals_found, beside_read, style_of, goals_styled, goals_command}
 use Rattle.view_cli.specs.Commands.List.{beside_found, beside_in, source_beside, listing_in, list_command}
 use Rattle.view_cli.specs.Commands.Packet.{traced_exit, where_started, packet_command}
 use Rattle.view_cli.specs.Tasks.{view_task}
@@ -435,7 +435,7 @@ module _ (laws : ViewLaws) (file : List ℕ) (word : PolicyWord) (only_missing a
   goals_in : (from : Option (List ℕ)) (told : List Event) (under : PolicyView)
       → IsToldBy word told under → (b : List ℕ) (r : Result Contents Fault) → decoded_container b ≡ r
       → Always view_texts (Done (GoalsListed from told b))
-      ((source_read from r >>= goals_styled only_missing all under b) >>= ending)
+      ((beside_read from r >>= goals_styled only_missing all under b) >>= ending)
   unfolding source_beside beside_in
   goals_in from told under tells b (Err fault) is =
       goals_out (GoalsListed from told b) (goals_of_bytes (style_of only_missing all []) under b)

@@ -45,7 +45,7 @@ use Rattle.view_cli.specs.Texts.{view_texts, formula_too_long_line, absent_packe
 use Rattle.view_cli.specs.declared.limits.TheConstants.{MAX_FORMULA}
 use Rattle.view_cli.specs.Commands.Faults.{told_exit, formula_command, policy_command, source_command}
 use Rattle.view_container.specs.Beside.{BesideView}
-use Rattle.view_cli.specs.Commands.Goals.{goals_found, source_read, style_of, goals_styled, goals_command}
+use Rattle.view_cli.specs.Commands.Goals.{goals_found, beside_read, style_of, goals_styled, goals_command}
 use Rattle.view_cli.specs.Commands.List.{beside_in, source_beside, listing_in, list_command}
 use Rattle.view_looks.specs.Looks.{look_of}
 use Rattle.view_cli.specs.Commands.Packet.{traced_exit, where_started, packet_command}
@@ -192,7 +192,7 @@ goals_alone_fits names only_missing all under b c =
 goals_in_fits : (names : List (List ℕ)) (from : Option (List ℕ)) (only_missing all : Bool)
     (under : PolicyView) (b : List ℕ) (r : Result Contents Fault) → ((c : Contents)
     → Fits names ((source_beside c.version c.bound from >>= goals_styled only_missing all under b) >>= ending))
-    → Fits names ((source_read from r >>= goals_styled only_missing all under b) >>= ending)
+    → Fits names ((beside_read from r >>= goals_styled only_missing all under b) >>= ending)
 goals_in_fits names from only_missing all under b (Ok c) each = each c
 goals_in_fits names from only_missing all under b (Err fault) each =
     goals_found_fits names (goals_of_bytes (style_of only_missing all []) under b)

@@ -23,9 +23,9 @@ goals_found (Ok text) = gives (done_exit text)
 goals_found (Err r) = stops (refused (refusal_line r))
 
 -- the source, where bytes were read as a container
-abbrev pub source_read : Option (List ℕ) → Result Contents Fault → Stage BesideView
-source_read source (Ok c) = source_beside c.version c.bound source
-source_read source (Err fault) = gives nothing_beside
+abbrev pub beside_read : Option (List ℕ) → Result Contents Fault → Stage BesideView
+beside_read source (Ok c) = source_beside c.version c.bound source
+beside_read source (Err fault) = gives nothing_beside
 
 -- the style of these lines and flags
 abbrev pub style_of : Bool → Bool → List ℕ → StyleView
@@ -43,5 +43,5 @@ unfoldable pub goals_command : PolicyWord → List ℕ → Option (List ℕ) →
 goals_command policy file source only_missing all = do
   under ← policy_told policy
   bytes ← container_bytes_of file
-  beside ← source_read source (decoded_container bytes)
+  beside ← beside_read source (decoded_container bytes)
   goals_styled only_missing all under bytes beside

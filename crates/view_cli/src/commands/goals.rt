@@ -7,7 +7,7 @@ ghost use Rattle.pcc_stages.specs.Answers.{Gives, GivesPure};
 ghost use Rattle.proof_container.specs.Decoding.{decoded_container};
 ghost use Rattle.view_goal_text.specs.Listing.{goals_of_bytes};
 ghost use Rattle.view_goal_text.specs.Styles.{style_view};
-ghost use Rattle.view_cli.specs.Commands.Goals.{goals_found, source_read, goals_styled};
+ghost use Rattle.view_cli.specs.Commands.Goals.{goals_found, beside_read, goals_styled};
 ghost use Rattle.view_cli.specs.Commands.Goals.{goals_command};
 ghost use Rattle.view_cli.specs.Inside.Founds.{beside_source};
 ghost use Rattle.view_cli.specs.Reports.{exit_of_report};
@@ -41,14 +41,14 @@ fn goals_in<'a>(
 
 /// The source in the file with this name, for the container that the bytes are; none if no name is
 /// given, or if the bytes are no container.
-fn source_read<'a, F: Files>(
+fn beside_read<'a, F: Files>(
     alloc: Global,
     bytes: &[u8],
     source: Option<&'a str>,
     files: &mut F,
 ) -> Result<Option<SourceCode>, Stop<'a>>
     ensures { Gives beside_source
-        (source_read (option_map (λ n. n.now) source.entry) (decoded_container bytes.now))
+        (beside_read (option_map (λ n. n.now) source.entry) (decoded_container bytes.now))
         (F.log files.old) (F.log files.new) (F.state files.old) (F.state files.new) result }
 {
     match found_in(alloc, bytes) {
@@ -82,7 +82,7 @@ fn goals_styled<'a>(
 ) -> Result<Report, Stop<'a>>
     ensures { let a = args.entry in
         GivesPure exit_of_report
-        (goals_styled a.only_missing a.all policy.now bytes.now (beside_source source.entry)) result }
+        (goals_styled a.only_missing a.all policy.now bytes.now (beside_source source)) result }
 {
     let lines = lines_of(alloc, source);
     let style = Style {
@@ -108,6 +108,6 @@ pub fn goals_command<'a, F: Files>(
 {
     let policy = policy_told(alloc, args.policy, files)?;
     let bytes = container_bytes_of(alloc, args.file, files)?;
-    let source = source_read(alloc, &bytes, args.source, files)?;
+    let source = beside_read(alloc, &bytes, args.source, files)?;
     goals_styled(alloc, &policy, &bytes, args, source)
 }

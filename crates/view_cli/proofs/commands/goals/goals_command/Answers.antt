@@ -6,7 +6,7 @@ use Rattle.pcc_stages.specs.Answers.{GivesPure}
 use Rattle.pcc_stages.specs.Stages.Containers.{container_bytes_of}
 use Rattle.pcc_stages.specs.Stages.Policies.{policy_told}
 use Rattle.pcc_stages.proofs.StageLemmas.{lifted, stops_first, gives_then}
-use Rattle.view_cli.specs.Commands.Goals.{source_read, goals_styled, goals_command}
+use Rattle.view_cli.specs.Commands.Goals.{beside_read, goals_styled, goals_command}
 use Rattle.view_cli.specs.Inside.Founds.{beside_source}
 use Rattle.view_cli.specs.Reports.{exit_of_report}
 use Rattle.view_cli.proofs.CommandStages.{same_stage, goals_stage, goals_under}
@@ -41,15 +41,15 @@ returns-in_err-source g c =
     let source = option_map (λ n. n.now) a.source in
     let under = c.in_ok-policy.policy in
     let bytes = c.in_ok-bytes.bytes in
-    let beside = source_read source (decoded_container bytes.items) in
+    let beside = beside_read source (decoded_container bytes.items) in
     gives_then (goals_under source a.only_missing a.all a.file.now) (λ (p : PolicyView). p) exit_of_report
     (policy_told (word_view a.policy)) _ _ _ _ _ _ under _ c.in_ok-policy.ensures
     (gives_then (goals_stage source a.only_missing a.all under) (λ (v : Vec ℕ Global). v.items) exit_of_report
     (container_bytes_of a.file.now) _ _ _ _ _ _ bytes _ c.in_ok-bytes.ensures
     (stops_first (goals_styled a.only_missing a.all under bytes.items) beside_source exit_of_report
     beside _ _ _ _ c.in_err-source.field-0.0 c.from_residual-in_err-source.result
-    (same_stage beside_source (source_read source (decoded_container c.deref.result.now)) beside
-    (ap (λ (b : List ℕ). source_read source (decoded_container b)) c.deref.ensures.value)
+    (same_stage beside_source (beside_read source (decoded_container c.deref.result.now)) beside
+    (ap (λ (b : List ℕ). beside_read source (decoded_container b)) c.deref.ensures.value)
     _ _ _ _ _ c.in_err-source.ensures)
     c.from_residual-in_err-source.ensures.1))
 
@@ -61,15 +61,15 @@ returns g c =
     let under = c.in_ok-policy.policy in
     let bytes = c.in_ok-bytes.bytes in
     let found = c.in_ok-source.source in
-    let beside = source_read source (decoded_container bytes.items) in
+    let beside = beside_read source (decoded_container bytes.items) in
     gives_then (goals_under source a.only_missing a.all a.file.now) (λ (p : PolicyView). p) exit_of_report
     (policy_told (word_view a.policy)) _ _ _ _ _ _ under _ c.in_ok-policy.ensures
     (gives_then (goals_stage source a.only_missing a.all under) (λ (v : Vec ℕ Global). v.items) exit_of_report
     (container_bytes_of a.file.now) _ _ _ _ _ _ bytes _ c.in_ok-bytes.ensures
     (gives_then (goals_styled a.only_missing a.all under bytes.items) beside_source exit_of_report
     beside _ _ _ _ _ _ found _
-    (same_stage beside_source (source_read source (decoded_container c.deref.result.now)) beside
-    (ap (λ (b : List ℕ). source_read source (decoded_container b)) c.deref.ensures.value)
+    (same_stage beside_source (beside_read source (decoded_container c.deref.result.now)) beside
+    (ap (λ (b : List ℕ). beside_read source (decoded_container b)) c.deref.ensures.value)
     _ _ _ _ _ c.in_ok-source.ensures)
     (lifted exit_of_report (goals_styled a.only_missing a.all under bytes.items (beside_source found)) _ _ c.goals_styled.result
     (subst (λ (b : List ℕ). GivesPure exit_of_report (goals_styled a.only_missing a.all under b (beside_source found))
