@@ -1,5 +1,6 @@
 -- One row more is listed.
-use Rattle.std.proofs.Common.{◌≡◌, ℕ, zero, suc, ◌+◌, ◌<◌, length, ◌&&◌, ◌||◌, Bool, false, not, Option, List, [], ◌∷◌, ◌++◌, map, take, drop, get_or, sym, ◌∙◌, ap, subst, append_assoc, arith}
+use Rattle.std.proofs.Common.{◌≡◌, ℕ, zero, suc, ◌+◌, ◌<◌, length, ◌&&◌, ◌||◌, Bool, false, not, Option}
+use Rattle.std.proofs.Common.{List, [], ◌∷◌, ◌++◌, map, take, drop, get_or, sym, ◌∙◌, ap, subst, append_assoc, arith}
 use Rattle.std.specs.Prelude.{slice_index_or, All}
 use Rattle.std.proofs.lemmas.List.{drop-drop, get_or-drop, length-drop, map-append, take-map}
 use Rattle.term_table.specs.Tree.{Tree}
