@@ -7,3 +7,4 @@ mod Leading
 mod Conjuncts
 mod Ahead
 mod Granting
+mod Opening

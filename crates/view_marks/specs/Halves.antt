@@ -1,7 +1,10 @@
 -- Which half of an implication keeps it from granting an access that isn't easy: its premise, or the address
 -- in its conclusion.
-use Rattle.std.specs.Prelude.{Bool, if◌then◌else◌, Option, Some, None, is_some, [], ◌∷◌}
-use Rattle.formula_tree.specs.Formulas.{Form, FTrue, FImp, FAll}
+use Rattle.std.specs.Prelude.{◌≡◌, ◌⊎◌, Bool, false, if◌then◌else◌, Option, Some, None, is_some, [], ◌∷◌}
+use Rattle.term_table.specs.Tree.{Tree}
+use Rattle.formula_tree.specs.Formulas.{Exp, Form, FTrue, FImp, FAll}
+use Rattle.formula_tree.specs.Variables.{PExp, subst_var}
+use Rattle.prover_class.specs.Hypotheses.{Hyps}
 use Rattle.prover_class.specs.Access.{without_access, by_access}
 use Rattle.view_marks.specs.declared.halves.Half.{Half}
 use Rattle.view_marks.specs.declared.halves.Half.TheVariants.{Premise, Conclusion}
@@ -31,3 +34,18 @@ half_with counted A (Some F) = Some (half_by (is_granted counted A F))
 -- the half of a hypothesis, where it is an implication
 abbrev pub half_of : Bool → Form → Form → Option Half
 half_of counted A F = half_with counted A (conclusion_alone F)
+
+-- ---- what the halves say
+
+-- the formula, with this proof, is among the hypotheses
+abbrev pub IsAmong : Form → Tree → Hyps → Type 0
+IsAmong F p [] = ⊥
+IsAmong F p (h ∷ Γ) = ((h.0 ≡ F) × (h.1 ≡ p)) ⊎ IsAmong F p Γ
+
+-- the premise isn't easy, with some expression for its variable where it is quantified
+abbrev pub HasHardPremise : Bool → Hyps → Form → Type 0
+HasHardPremise counted Γ (FImp P Q) = is_some (without_access counted PART_BINDERS Γ P) ≡ false
+HasHardPremise counted Γ (FAll (FImp P Q)) =
+    (o : Exp)
+    × (is_some (without_access counted PART_BINDERS Γ (subst_var P 0 (PExp o))) ≡ false)
+HasHardPremise counted Γ A = ⊥

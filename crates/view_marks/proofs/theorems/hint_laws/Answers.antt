@@ -1,6 +1,7 @@
 use Rattle.view_marks.proofs.Wholes.{both-hard}
 use Rattle.view_marks.proofs.Leading.{missing-hard, bounds-hard, at_most-hard}
 use Rattle.view_marks.proofs.Conjuncts.{each-hard, begins}
+use Rattle.view_marks.proofs.Opening.{conclusion-grants-none, premise-left}
 use Rattle.view_marks.proofs.theorems.hint_laws.Goals as goal
 
 pub returns-clause-missing : goal.returns-clause-missing
@@ -19,3 +20,9 @@ returns-clause-bounds c = let r = c.round_laws.ensures in bounds-hard r.found r.
 
 pub returns-clause-at_most : goal.returns-clause-at_most
 returns-clause-at_most c = let r = c.round_laws.ensures in at_most-hard r.found r.absurd r.shape
+
+pub returns-clause-conclusion : goal.returns-clause-conclusion
+returns-clause-conclusion c = conclusion-grants-none
+
+pub returns-clause-premise : goal.returns-clause-premise
+returns-clause-premise c = let r = c.round_laws.ensures in premise-left r.found r.absurd r.shape
