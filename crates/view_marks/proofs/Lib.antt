@@ -2,7 +2,7 @@ pub mod Wholes
 mod Pushing
 mod Descending
 mod Growing
-mod Gathering
+pub mod Gathering
 mod Leading
 mod Conjuncts
 mod Ahead
