@@ -96,11 +96,7 @@ fn half_label(alloc: Global, half: Half) -> Result<Vec<u8>, AllocError>
 }
 
 /// The line of a half that isn't easy.
-fn push_half_text(
-    table: &Table,
-    lines: &mut Vec<ShownLine>,
-    half: Half,
-) -> Result<(), AllocError>
+fn push_half_text(table: &Table, lines: &mut Vec<ShownLine>, half: Half) -> Result<(), AllocError>
     requires { AreKnownLines table.now lines.old.items }
     ensures exact { (bound : Option ℕ) → OnOk result
         (AreAdded bound table.now table.now lines.old.items (plain_line (half_text half) ∷ [])

@@ -115,8 +115,7 @@ fn is_granted(
     ensures extends { Extends table.old table.new }
     ensures search { OnOk result (IsSearch table.new search.new) }
 {
-    let known = [hyp];
-    let hyps = hypotheses_of(table, &known)?;
+    let hyps = hypotheses_of(table, &[hyp])?;
     let mut context = Context::new(table, PART_BINDERS, hyps)?;
     let proof = proof_by_access(table, search, &mut context, counted, goal)?;
     Ok(proof.is_some())
