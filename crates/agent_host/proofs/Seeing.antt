@@ -86,7 +86,7 @@ outcome-is ended.OutOfSteps regs word = refl
 outcome-is (ended.Returned w) regs word = ap outcomes.Returned (word w refl)
 
 -- the agent after a run with a budget, as the definition of turns has it
-run-by : (m : HostedView) (rights : Rights) (n : ℕ) → Phase → Agent
+abbrev run-by : (m : HostedView) (rights : Rights) (n : ℕ) → Phase → Agent
 run-by m rights n phase =
     if may_go_on (outcome_seen phase m.regs) then left_by (agent_seen m rights) (run_of m.accepted.code n (part_state (part_of m) rights))
     else agent_seen m rights
@@ -310,7 +310,7 @@ right-in m phases.Ready fit e =
     let some : SomeRightsFit m = fit refl in
     record { reads = some.2.reads; writes = some.2.writes; fits = λ ready. (some.0, some.2) }
 
-rights-for : (it : Option HostedView) → ((m : HostedView) → it ≡ Some m → m.phase ≡ phases.Ready → SomeRightsFit m) → Rights
+abbrev rights-for : (it : Option HostedView) → ((m : HostedView) → it ≡ Some m → m.phase ≡ phases.Ready → SomeRightsFit m) → Rights
 rights-for None fit = no-rights
 rights-for (Some m) fit = rights-in m m.phase (fit m refl)
 
