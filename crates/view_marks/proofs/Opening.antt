@@ -155,9 +155,11 @@ module _ (counted : Bool) (a : Exp) (Δ Γ : Hyps) (P : Form) where
           → (o : Exp) × (is_some (without_access counted 33 Γ (subst_var P 0 (PExp o))) ≡ false)
       at_index None t n = absurd (true≢false (sym t))
       at_index (Some o) t n =
-          let there = subst_var_exp z 0 (PExp o) in
-          (o, tested-hard (same_address 33 there a) (without_access counted 33 Δ FTrue)
-          (without_access counted 33 Γ (subst_var P 0 (PExp o))) (opening_of there o) t n)
+          let there = subst_var_exp z 0 (PExp o) in (
+            o,
+            tested-hard (same_address 33 there a) (without_access counted 33 Δ FTrue)
+                (without_access counted 33 Γ (subst_var P 0 (PExp o))) (opening_of there o) t n,
+          )
 
 -- ---- a hypothesis
 
