@@ -80,6 +80,10 @@ pub fn push_notes_beside(
 {
     match difference(code, beside) {
         None => Ok(()),
-        Some(i) => notes.push(difference_note(alloc, beside.lines, i)?),
+        Some(i) => {
+            let note = difference_note(alloc, beside.lines, i)?;
+            notes.push(note)?;
+            Ok(())
+        }
     }
 }
