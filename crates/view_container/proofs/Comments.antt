@@ -24,7 +24,8 @@ use Rattle.proof_container.specs.Postorder.{entries}
 use Rattle.proof_container.specs.Encoding.{IsContents}
 use Rattle.asm_print.specs.Laws.{IsComment, AreSpellableExtras}
 use Rattle.asm_print.proofs.Characters.{printable-append, clean_printable, decimal_clean, decimal_short}
-use Rattle.view_container.specs.Words.{indexed_word, line_part, word_comment, word_hint}
+use Rattle.view_entries.specs.SourceLines.{source_place}
+use Rattle.view_container.specs.Words.{indexed_word, word_comment, word_hint}
 use Rattle.view_container.specs.Notes.{named_policy, version_note, bound_notes, counts_note, measures_text, proof_note, lemma_notes, notes_of}
 use Rattle.view_container.specs.Sources.{extras_of}
 use Rattle.view_container.specs.Beside.{BesideView, common_front, first_other, difference_notes, notes_beside}
@@ -101,7 +102,7 @@ word_hex w = hex_part 8 (to_be_bytes w32 w) (bytes-high 4 w) (omega (arith, leng
 
 -- ---- comments of words
 
-line : (o : Option ℕ) → ((n : ℕ) → o ≡ Some n → n < 2 ^ 32) → IsPart 26 (line_part o)
+line : (o : Option ℕ) → ((n : ℕ) → o ≡ Some n → n < 2 ^ 32) → IsPart 26 (source_place o)
 line None h = record { printable = refl; short = omega arith }
 line (Some n) h =
     let small : n < 2 ^ 32 = h n refl in
@@ -116,7 +117,7 @@ word_is code lines i h numbers =
     let word = joined 20 9 (decimal i) (32 ∷ hex) (number i h)
     (joined 1 8 blank hex (said 1 blank refl refl) (word_hex (code_word_at code i))) in
     comment 55 _ (omega arith)
-    (joined 29 26 (indexed_word code i) (line_part (slice_get lines i)) word
+    (joined 29 26 (indexed_word code i) (source_place (slice_get lines i)) word
     (line (slice_get lines i) (numbers i)))
 
 -- ---- lists
@@ -237,7 +238,7 @@ difference lines i h numbers = (
   comment 72 _ (omega arith)
       (joined 26 46 (codes "SOURCE differs from index ") _
       (said 26 (codes "SOURCE differs from index ") refl refl)
-      (joined 20 26 (decimal i) (line_part (slice_get lines i)) (number i h)
+      (joined 20 26 (decimal i) (source_place (slice_get lines i)) (number i h)
       (line (slice_get lines i) (numbers i)))),
   tt,
 )

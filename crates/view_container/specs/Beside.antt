@@ -1,7 +1,7 @@
 -- A source beside whose lines a container is listed, and where its code is other code.
 use Rattle.std.specs.Prelude.{ℕ, suc, ◌/◌, ◌==◌, if◌then◌else◌, List, [], ◌∷◌, ◌++◌, codes, decimal, slice_get, Option, Some, None, option_and_then}
 use Rattle.std.specs.Str.{bytes_eq}
-use Rattle.view_container.specs.Words.{line_part}
+use Rattle.view_entries.specs.SourceLines.{source_place}
 
 -- the lines of a source's instructions, and the bytes of its code, if there is a source
 pub record BesideView : Type 0 where
@@ -27,7 +27,7 @@ first_other code other =
 abbrev pub difference_notes : List ℕ → Option ℕ → List (List ℕ)
 difference_notes lines None = []
 difference_notes lines (Some i) =
-    (codes "SOURCE differs from index " ++ (decimal i ++ line_part (slice_get lines i))) ∷ []
+    (codes "SOURCE differs from index " ++ (decimal i ++ source_place (slice_get lines i))) ∷ []
 
 -- what is noted of a source beside code
 abbrev pub notes_beside : List ℕ → BesideView → List (List ℕ)

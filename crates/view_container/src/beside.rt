@@ -7,7 +7,7 @@ ghost use Rattle.view_container.specs.Beside.{notes_beside};
 ghost use Rattle.view_container.specs.Views.{beside_view};
 
 use std::alloc::{AllocError, Global};
-use view_entries::push_number;
+use view_entries::{push_number, push_source_line};
 
 /// A source beside whose lines a container is listed, if there is one.
 #[derive(Clone, Copy, Debug, PartialEq, Eq)]
@@ -61,10 +61,7 @@ fn difference_note(alloc: Global, lines: &[u32], i: usize) -> Result<Vec<u8>, Al
     let mut out = Vec::new(alloc);
     out.extend_from_slice(b"SOURCE differs from index ")?;
     push_number(&mut out, i as u64)?;
-    if let Some(line) = lines.get(i) {
-        out.extend_from_slice(b" line ")?;
-        push_number(&mut out, u64::from(*line))?;
-    }
+    push_source_line(&mut out, lines, i)?;
     Ok(out)
 }
 

@@ -113,8 +113,9 @@ fn comments_of(alloc: Global, bytes: &[u8], why: NoSource) -> Result<Vec<u8>, Li
 /// term is higher than `vcgen::MAX_HEIGHT`, each invariant is a formula of the version's signature,
 /// and no text is too long for a source. Each instruction's comment is its index, its word and, if
 /// the source `beside` has so many instructions, their line in it; notes after the code list the
-/// rest, and last from which index on that source's code is other code. Otherwise all lines are comments: each word as an instruction, and the entries that the
-/// invariants are made of; the last line says why the listing isn't a source.
+/// rest, and last from which index on that source's code is other code. Otherwise all lines are
+/// comments: each word as an instruction, and the entries that the invariants are made of; the last
+/// line says why the listing isn't a source.
 ///
 /// Errors: `TooLong` and `Malformed` exactly if `bytes` aren't a container. `Memory`, and `Results`
 /// past `lf_check::MOST_RESULTS` judgements of the invariants, say nothing about `bytes`.

@@ -2,6 +2,7 @@
 use Rattle.std.specs.Prelude.{ℕ, ◌-◌, ◌^◌, ◌==◌, nat_lt, Bool, true, false, if◌then◌else◌, List, [], ◌∷◌, ◌++◌, codes, decimal, slice_get, Option, Some, None}
 use Rattle.view_goals.specs.declared.rows.Why.{Why}
 use Rattle.view_goals.specs.declared.rows.Why.TheVariants as why
+use Rattle.view_entries.specs.SourceLines.{source_place}
 use Rattle.view_labels.specs.declared.limits.TheConstants.{LEAST_NEGATIVE}
 use Rattle.view_labels.specs.declared.marks.Mark.{Mark}
 use Rattle.view_labels.specs.declared.marks.Mark.TheVariants as mark
@@ -9,11 +10,6 @@ use Rattle.view_labels.specs.declared.marks.Mark.TheVariants as mark
 -- a word and the number behind it
 abbrev pub numbered : List ℕ → ℕ → List ℕ
 numbered word n = word ++ decimal n
-
--- the line of a source, where it is known
-abbrev pub source_place : Option ℕ → List ℕ
-source_place None = []
-source_place (Some n) = numbered (codes " line ") n
 
 -- a word and the index behind it, with the line of the source that the index's instruction stands in,
 -- where these lines are given

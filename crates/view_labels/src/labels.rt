@@ -2,15 +2,15 @@
 //!
 //! Errors: out of memory.
 
-ghost use Rattle.std.specs.Prelude.{◌≡◌, ◌++◌, slice_get, IfOk, OnOk};
-ghost use Rattle.view_labels.specs.Labels.{numbered, source_place, indexed, part_title, why_text};
+ghost use Rattle.std.specs.Prelude.{◌≡◌, ◌++◌, IfOk, OnOk};
+ghost use Rattle.view_labels.specs.Labels.{numbered, indexed, part_title, why_text};
 ghost use Rattle.view_labels.specs.Labels.{mark_text, taken_text, goal_label, known_label};
 ghost use Rattle.view_labels.specs.Labels.{negative_text, worded, bounds_label, verdict_line};
 
 use crate::limits::LEAST_NEGATIVE;
 use crate::marks::{GoalName, Mark};
 use std::alloc::{AllocError, Global};
-use view_entries::push_number;
+use view_entries::{push_number, push_source_line};
 use view_goals::Why;
 
 /// Appends a word and the number after it.
@@ -21,23 +21,12 @@ fn push_numbered(out: &mut Vec<u8>, word: &str, n: u64) -> Result<(), AllocError
     push_number(out, n)
 }
 
-/// Appends the line of the source that the instruction at an index is in, if it is known.
-fn push_source_line(out: &mut Vec<u8>, lines: &[u32], index: u32) -> Result<(), AllocError>
-    ensures { let line = source_place (slice_get lines.now index) in
-        OnOk result (out.new.items ≡ out.old.items ++ line) }
-{
-    match lines.get(index as usize) {
-        None => Ok(()),
-        Some(line) => push_numbered(out, " line ", u64::from(*line)),
-    }
-}
-
 /// Appends a word and the index after it, with its line of the source if that is known.
 fn push_indexed(out: &mut Vec<u8>, lines: &[u32], word: &str, index: u32) -> Result<(), AllocError>
     ensures { OnOk result (out.new.items ≡ out.old.items ++ indexed lines.now word.now index) }
 {
     push_numbered(out, word, u64::from(index))?;
-    push_source_line(out, lines, index)
+    push_source_line(out, lines, index as usize)
 }
 
 /// Appends a word as a number below 0, if it is near 2^64.
