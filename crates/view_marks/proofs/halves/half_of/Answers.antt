@@ -10,6 +10,11 @@ is_granted-requires-clause-search c =
     search-more c.args.search.now c.args.table.now c.conclusion_alone.new.table c.requires.search
     c.in_ok-conclusion_alone.ensures.extends
 
+pub returns-in-None-clause-search : goal.returns-in-None-clause-search
+returns-in-None-clause-search c =
+    search-more c.args.search.now c.args.table.now c.conclusion_alone.new.table c.requires.search
+    c.in_ok-conclusion_alone.ensures.extends
+
 pub returns-in-None-clause-exact : goal.returns-in-None-clause-exact
 returns-in-None-clause-exact c = λ A F qa qf.
     let u = c.conclusion_alone.new.table in
