@@ -40,7 +40,7 @@ pub returns-in_ok-extend_from_slice-in-Some-clause-known :
     goal.returns-in_ok-extend_from_slice-in-Some-clause-known
 returns-in_ok-extend_from_slice-in-Some-clause-known t c =
     let v = c.hard_parts.new.table in
-    let w = c.hard_parts-2.new.table in
+    let w = c.hard_parts-in-Some.new.table in
     let p = c.in_ok-parts-in-Some in
     let q = c.in_ok-others-in-Some in
     let all = c.in_ok-extend_from_slice-in-Some.ensures.items
@@ -55,7 +55,7 @@ returns-in_ok-extend_from_slice-in-Some-clause-exact t c =
     let a = c.args in
     let n = c.proof_by_all_means.new in
     let m = c.hard_parts.new in
-    let k = c.hard_parts-2.new in
+    let k = c.hard_parts-in-Some.new in
     let o = c.in_ok-proof in
     let s = c.in-Some in
     let p = c.in_ok-parts-in-Some in
@@ -77,7 +77,7 @@ returns-in_ok-extend_from_slice-in-Some-clause-after t c =
     let a = c.args.context.now in
     let n = c.proof_by_all_means.new in
     let m = c.hard_parts.new in
-    let k = c.hard_parts-2.new in
+    let k = c.hard_parts-in-Some.new in
     after_twice m.table k.table m.search k.search a m.context k.context
     (after_twice n.table m.table n.search m.search a n.context m.context
     c.in_ok-proof.ensures.after c.in_ok-parts-in-Some.ensures.after)
