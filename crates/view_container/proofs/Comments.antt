@@ -227,10 +227,11 @@ notes c h =
 common-within : (code other : List ℕ) → common_front code other ≤ length code
 common-within [] other = omega arith
 common-within (b ∷ code) [] = omega arith
-common-within (b ∷ code) (d ∷ other) = go (b == d) where
-  go : (t : Bool) → cond t (suc (common_front code other)) 0 ≤ suc (length code)
-  go true = let rest = common-within code other in omega (arith, rest)
-  go false = omega arith
+common-within (b ∷ code) (d ∷ other) = go (b == d) (common-within code other) where
+  go : (t : Bool) → common_front code other ≤ length code
+      → cond t (suc (common_front code other)) 0 ≤ suc (length code)
+  go true rest = omega (arith, rest)
+  go false rest = omega arith
 
 difference : (lines : List ℕ) (i : ℕ) → i < 2 ^ 64 → AreLineNumbers lines
     → AllByRecursion IsComment (difference_notes lines (Some i))

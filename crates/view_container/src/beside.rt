@@ -4,8 +4,12 @@ ghost use Rattle.std.specs.Prelude.{◌≡◌, ◌≤◌, ◌++◌, length, map,
 ghost use Rattle.std.specs.Prelude.{IfOk, OnOk, Some, ◌∷◌, []};
 ghost use Rattle.view_container.specs.Beside.{common_front, first_other, difference_notes};
 ghost use Rattle.view_container.specs.Beside.{notes_beside};
+ghost use Rattle.view_container.specs.Notes.{notes_of};
 ghost use Rattle.view_container.specs.Views.{beside_view};
+ghost use Rattle.proof_container.specs.Views.{IsCanonical, contents_of};
 
+use crate::summary::notes;
+use proof_container::Container;
 use std::alloc::{AllocError, Global};
 use view_entries::{push_number, push_source_line};
 
@@ -66,7 +70,7 @@ fn difference_note(alloc: Global, lines: &[u32], i: usize) -> Result<Vec<u8>, Al
 }
 
 /// Appends what is noted of a source beside code.
-pub fn push_notes_beside(
+fn push_notes_beside(
     alloc: Global,
     notes: &mut Vec<Vec<u8>>,
     code: &[u8],
@@ -83,4 +87,20 @@ pub fn push_notes_beside(
             Ok(())
         }
     }
+}
+
+/// Returns the notes on what a container holds, and on a source beside it.
+pub fn all_notes(
+    alloc: Global,
+    container: &Container<'_>,
+    beside: Beside<'_>,
+) -> Result<Vec<Vec<u8>>, AllocError>
+    requires canonical { IsCanonical container.now }
+    ensures { let c = contents_of container.now in
+        IfOk result (λ v. map (λ n. n.items) v.items
+        ≡ notes_of c ++ notes_beside c.code (beside_view beside.entry)) }
+{
+    let mut notes = notes(alloc, container)?;
+    push_notes_beside(alloc, &mut notes, container.code, beside)?;
+    Ok(notes)
 }

@@ -11,12 +11,11 @@ ghost use Rattle.view_container.specs.Listing.{contents_read, comments_in, listi
 ghost use Rattle.view_container.specs.Answers.{Reports, Finds};
 ghost use Rattle.view_container.specs.Views.{beside_view};
 
-use crate::beside::{Beside, push_notes_beside};
+use crate::beside::{Beside, all_notes};
 use crate::forms::short_forms;
 use crate::judging::{code_in, formed, low};
 use crate::plain::in_comments;
 use crate::stop::{ListFault, NoSource, Stop};
-use crate::summary::notes;
 use crate::words::{comments, hints};
 use alpha_words::Insn;
 use asm_print::{Extras, print_source};
@@ -80,8 +79,7 @@ fn source_of(alloc: Global, container: Container<'_>, beside: Beside<'_>) -> Res
     let mut container = container;
     let code = code_in(alloc, &container)?;
     low(&container)?;
-    let mut notes = notes(alloc, &container)?;
-    push_notes_beside(alloc, &mut notes, container.code, beside)?;
+    let notes = all_notes(alloc, &container, beside)?;
     let signature = signature_of(container.version);
     let held = &mut container;
     formed(alloc, &mut held.table, signature, held.bound, &held.invs)?;

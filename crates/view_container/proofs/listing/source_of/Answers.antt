@@ -78,8 +78,7 @@ returns c =
     (id_trees k.table (c.deref.ensures.value i))) ∙ c.in_ok-formed.ensures.answer in
     let rest = source-rest (contents_of k) beside code c.in_ok-code.ensures c.in_ok-low.ensures forms in
     let notes : notes_of (contents_of k) ++ notes_beside k.code.now beside ≡ map (λ v. v.items) c.deref-5.result.now =
-    sym (ap (map (λ v. v.items)) c.deref-5.ensures.value ∙ c.in_ok-push_notes_beside.ensures
-    ∙ ap (λ l. l ++ notes_beside k.code.now beside) c.in_ok-notes.ensures) in
+    sym (ap (map (λ v. v.items)) c.deref-5.ensures.value ∙ c.in_ok-notes.ensures) in
     let text = rest
     ∙ ap (λ r. r >>= λ invs. if_whole (code_text (extras_of (contents_of k) beside) code invs)) found
     ∙ (λ i. if_whole (code_text (extras_with k.code.now beside.lines (notes i))
