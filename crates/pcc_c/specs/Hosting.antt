@@ -23,8 +23,8 @@ abbrev pub Results : Type 0
 Results = List ℕ → PacketResult
 
 -- the host that a handle has, if there is one
-abbrev pub results_of : PccHost → Option Results
-results_of handle = option_map host_results handle.held.runner
+abbrev pub host_of : PccHost → Option Results
+host_of handle = option_map host_results handle.held.runner
 
 -- ---- a new host
 
@@ -44,7 +44,7 @@ IsNewStatus None given bytes status =
 
 -- The bytes are accepted under the policy, and their code is safe for it. The result of each packet
 -- is what the machine that tests each access makes of it with this code, in so many steps at most.
-pub record RunsCode (policy : PolicyView) (bytes : List ℕ) (steps : ℕ) (results : Results)
+pub record HostsCode (policy : PolicyView) (bytes : List ℕ) (steps : ℕ) (results : Results)
     : Type 0 where
   pub code : IsSafeCode policy bytes
   pub runs : results ≡ packet_result policy code.accepted.code steps
@@ -53,7 +53,7 @@ pub record RunsCode (policy : PolicyView) (bytes : List ℕ) (steps : ℕ) (resu
 pub record RunsAccepted (given bytes : List ℕ) (steps : ℕ) (results : Results) : Type 0 where
   pub policy : PolicyView
   pub gives : policy_for 1 given ≡ Ok policy
-  pub accepted : RunsCode policy bytes steps results
+  pub accepted : HostsCode policy bytes steps results
 
 -- A handle that had no host has one exactly if the status is that of success, and the host runs
 -- accepted code.
@@ -66,18 +66,18 @@ MakesHost given bytes steps None (Some results) status =
 -- ---- a packet
 
 -- a result as C has it; no run of accepted code is blocked
-abbrev pub Shows : PacketResult → PccResult → Type 0
-Shows Short shown = shown ≡ record { end = SHORT; r0 = 0; sum = 0 }
-Shows (Ran (Returned word) sum) shown = shown ≡ record { end = RETURNED; r0 = word; sum = sum }
-Shows (Ran OutOfSteps sum) shown = shown ≡ record { end = OUT_OF_STEPS; r0 = 0; sum = sum }
-Shows (Ran (Blocked index kind addr) sum) shown = ⊥
+abbrev pub ShowsResult : PacketResult → PccResult → Type 0
+ShowsResult Short shown = shown ≡ record { end = SHORT; r0 = 0; sum = 0 }
+ShowsResult (Ran (Returned word) sum) shown = shown ≡ record { end = RETURNED; r0 = word; sum = sum }
+ShowsResult (Ran OutOfSteps sum) shown = shown ≡ record { end = OUT_OF_STEPS; r0 = 0; sum = sum }
+ShowsResult (Ran (Blocked index kind addr) sum) shown = ⊥
 
 -- what `pcc_host_run` answers: the host's result of the packet, if there is a host and the packet
 -- isn't too long
 abbrev pub RunsPacket : Option Results → List ℕ → PccResult → PccResult → ℕ → Type 0
 RunsPacket None packet old new status = (status ≡ NO_HOST) × (new ≡ old)
 RunsPacket (Some results) packet old new status =
-    ((length packet ≤ MAX_PACKET) × (status ≡ DONE) × Shows (results packet) new)
+    ((length packet ≤ MAX_PACKET) × (status ≡ DONE) × ShowsResult (results packet) new)
     ⊎ ((MAX_PACKET < length packet) × (status ≡ LONG_PACKET) × (new ≡ old))
 
 -- ---- no host any more

@@ -5,8 +5,8 @@ ghost use Rattle.pcc_gate.specs.First.{first_refusal};
 ghost use Rattle.safe_host.specs.Runners.{host_results};
 ghost use Rattle.pcc_c.specs.declared.statuses.TheConstants.{DONE};
 ghost use Rattle.pcc_c.specs.Checking.{refusal_answer};
-ghost use Rattle.pcc_c.specs.Hosting.{results_of, host_answer, IsNewStatus, MakesHost};
-ghost use Rattle.pcc_c.specs.Hosting.{RunsCode, RunsAccepted, RunsPacket, IsFreeStatus};
+ghost use Rattle.pcc_c.specs.Hosting.{host_of, host_answer, IsNewStatus, MakesHost};
+ghost use Rattle.pcc_c.specs.Hosting.{HostsCode, RunsAccepted, RunsPacket, IsFreeStatus};
 ghost use Rattle.pcc_c.specs.Inside.Answers.{IsDue};
 
 use crate::fault::Fault;
@@ -27,7 +27,7 @@ fn runner_of(alloc: Global, policy: &Policy, bytes: &[u8], steps: u64) -> Result
     ensures exact { IsDue (Unit {0}) (λ _. tt)
         (refusal_answer (first_refusal policy.now bytes.now)) result }
     ensures runs { IfOk result
-        (λ runner. RunsCode policy.now bytes.now steps (host_results runner)) }
+        (λ runner. HostsCode policy.now bytes.now steps (host_results runner)) }
 {
     match gate(alloc, policy, bytes) {
         Ok(accepted) => {
@@ -72,9 +72,9 @@ pub extern "C" fn pcc_host_new(
     steps: u64,
     host: &mut PccHost,
 ) -> u32
-    ensures exact { IsNewStatus (results_of host.old) policy.now bytes.now result }
+    ensures exact { IsNewStatus (host_of host.old) policy.now bytes.now result }
     ensures made { MakesHost policy.now bytes.now steps
-        (results_of host.old) (results_of host.new) result }
+        (host_of host.old) (host_of host.new) result }
     ensures unchanged { ¬ (result ≡ DONE) → host.new ≡ host.old }
 {
     if host.is_open() {
@@ -103,8 +103,8 @@ pub extern "C" fn pcc_host_run(
     packet: &[u8],
     out: &mut PccResult,
 ) -> u32
-    ensures exact { RunsPacket (results_of host.old) packet.now out.old out.new result }
-    ensures kept { results_of host.new ≡ results_of host.old }
+    ensures exact { RunsPacket (host_of host.old) packet.now out.old out.new result }
+    ensures kept { host_of host.new ≡ host_of host.old }
     ensures unchanged { ¬ (result ≡ DONE) → host.new ≡ host.old }
 {
     if !host.is_open() {
@@ -122,8 +122,8 @@ pub extern "C" fn pcc_host_run(
 /// Frees the handle's host. Returns `DONE`, or `NO_HOST` if it has none; the handle then has none.
 #[unsafe(no_mangle)]
 pub extern "C" fn pcc_host_free(alloc: Global, host: &mut PccHost) -> u32
-    ensures exact { IsFreeStatus (results_of host.old) result }
-    ensures closed { results_of host.new ≡ None }
+    ensures exact { IsFreeStatus (host_of host.old) result }
+    ensures closed { host_of host.new ≡ None }
     ensures unchanged { ¬ (result ≡ DONE) → host.new ≡ host.old }
 {
     if !host.is_open() {

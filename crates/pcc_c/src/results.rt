@@ -2,7 +2,7 @@
 
 ghost use Rattle.std.specs.Prelude.{◌≡◌};
 ghost use Rattle.safe_host.specs.Runners.{ended_result};
-ghost use Rattle.pcc_c.specs.Hosting.{Shows};
+ghost use Rattle.pcc_c.specs.Hosting.{ShowsResult};
 
 use safe_host::Ended;
 
@@ -29,7 +29,7 @@ pub struct PccResult {
 
 /// Returns the result of a run that ended so, or of a packet that is too short.
 pub fn shown(ended: Option<(Ended, u64)>) -> PccResult
-    ensures { Shows (ended_result ended) result }
+    ensures { ShowsResult (ended_result ended) result }
 {
     match ended {
         None => PccResult {
