@@ -41,8 +41,8 @@ returns-clause-exact c form views =
     new =
     subst (λ l. AreAdded bound u v two (row_lines s bound true (tree_at t part.known ∷ []) l c.args.marks.now) new)
     rows
-    (subst (λ s. AreAdded bound u v two
-    (row_lines s bound true (s ∷ []) (map (row_view u) c.as_slice-rows.result.now) c.args.marks.now) new)
+    (subst (λ h. AreAdded bound u v two
+    (row_lines s bound true (h ∷ []) (map (row_view u) c.as_slice-rows.result.now) c.args.marks.now) new)
     known listed) in
     let first : List GoalLine = plain_line (part_title s.lines c.args.number part.at) ∷ [] in
     let next : List GoalLine = before start_label (tree_at t part.known) ∷ [] in
