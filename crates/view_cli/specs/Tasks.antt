@@ -20,8 +20,8 @@ use Rattle.view_cli.specs.Commands.Faults.{formula_command, policy_command, sour
 -- what a command comes to
 abbrev pub exit_of_command : ViewInvocation → Stage Exit
 exit_of_command (list file from) = list_command file from
-exit_of_command (goals policy file source only_missing all) =
-    goals_command policy file source only_missing all
+exit_of_command (goals policy file from only_missing all) =
+    goals_command policy file from only_missing all
 exit_of_command (packet policy file packets k steps) = packet_command policy file packets k steps
 exit_of_command (formula file profile left) = formula_command file profile left
 exit_of_command (policy_formulas file) = policy_command file
@@ -59,7 +59,7 @@ standing_with (from_file name) = command
 
 -- what a command is
 abbrev pub view_standing : ViewInvocation → Standing
-view_standing (goals policy file source only_missing all) = standing_with policy
+view_standing (goals policy file from only_missing all) = standing_with policy
 view_standing (packet policy file packets k steps) = standing_with policy
 view_standing other = command
 
