@@ -18,8 +18,17 @@ use Rattle.pcc_c.specs.contracts.held.parts.Parts as Parts
 use Rattle.pcc_c.specs.contracts.held.HeldHost as HeldHost
 
 abbrev pub E : Bx
-E = record { row = Runner.the_row; laws = runner.the_row_laws; al = record { row = Heap.the_row; laws = heap.the_row_laws; g = ghosts; d = dict; drops
-= impl [] tnil dnil } }
+E = record {
+  row = Runner.the_row;
+  laws = runner.the_row_laws;
+  al = record {
+    row = Heap.the_row;
+    laws = heap.the_row_laws;
+    g = ghosts;
+    d = dict;
+    drops = impl [] tnil dnil;
+  };
+}
 
 abbrev pub FromParts : Slot 0
 FromParts = plain (λ _. Parts.the_row Runner.the_row Heap.the_row ghosts)

@@ -56,8 +56,10 @@ module _ {M : Type 1} {𝓤 : Ura M} (𝓛 : Logic 𝓤) (at_mem : Memory → SP
       qed 𝓛 ((‵ ftrue ⊛ ‵ (owns (Heap.the_row ∷ []) (a, tt) (vs, tt))) ∷ raw (emp 𝓤) ∷ []) ∵ split ! $ drop ! $ fsplit ! $
       handle_tells E.al ! a vs (λ hv ea fa. move ! (1 ∷ 2 ∷ []) $ drop ! $ drop ! $
       let w : Val = vstruct (vcons (ptr_val null_ptr) (vcons hv vnil)) in
-      let typed : T (has_ty (box_ty E) w) × WT w = (both_tt (has_ty ty_ptr (ptr_val null_ptr)) (has_ty (α E.al) hv) (Ptr-Good null_ptr).0 fa.0,
-      ((Ptr-Good null_ptr).1, (fa.1, tt))) in
+      let typed : T (has_ty (box_ty E) w) × WT w = (
+        both_tt (has_ty ty_ptr (ptr_val null_ptr)) (has_ty (α E.al) hv) (Ptr-Good null_ptr).0 fa.0,
+        ((Ptr-Good null_ptr).1, (fa.1, tt)),
+      ) in
       let Γ : List (Item 𝓤) = ‵ ((Heap.the_row).own_val a (hv ∷ [])) ∷ [] in
       by ! (subst (λ (xs : List Val). ent 𝓤 (types.Kit.⋆ 𝓛 Γ) (WpFn 𝓤 H 𝓣.C 𝓣.Λ code.function (xs ++ []) Post)) (sym ea)
       (qed 𝓛 Γ ∵ enter ! 𝓣.C 𝓣.Λ code.function (hv ∷ []) _ $ alloc_all ! (λ ls. pass_all ! refl (fa, tt) $
