@@ -1,6 +1,6 @@
 -- Native code is short, so each displacement fits.
-use Rattle.std.proofs.Common.{◌≡◌, ℕ, zero, suc, ◌+◌, ◌*◌, ◌^◌, ◌<◌, ◌≤◌, Bool, true, false, cond, List, [], ◌∷◌, ◌++◌, length, slice_get, Option, Some, None}
-use Rattle.std.proofs.Common.{ℤ, pos, negsuc, ◌-ℤ◌, FitsSigned, refl, ap, arith, length-append}
+use Rattle.std.proofs.Common.{◌≡◌, ℕ, zero, suc, ◌+◌, ◌*◌, ◌^◌, ◌<◌, ◌≤◌, Bool, true, false, cond, ◌&&◌, eqb, List, [], ◌∷◌, ◌++◌, length, slice_get, Option, Some, None}
+use Rattle.std.proofs.Common.{ℤ, pos, negsuc, ◌-ℤ◌, FitsSigned, arith, length-append}
 use Rattle.std.specs.Int.{w32}
 use Rattle.std.proofs.lemmas.Int.{ints}
 use borrow.Author.Differences.{up, down}
@@ -10,6 +10,8 @@ use Rattle.alpha_words.specs.declared.insn.Insn.{Insn}
 use Rattle.alpha_cfg.specs.Actions.{Computed, Sum, Applied, Test, Always, When, Action, action_of}
 use Rattle.alpha_cfg.specs.Actions as actions
 use Rattle.alpha_cfg.specs.Flow.{IsCode, jump_of}
+use Rattle.x86_words.specs.declared.operators.AluOp.TheVariants as alu
+use Rattle.x86_words.specs.declared.operators.X86Cond.TheVariants.{Below}
 use Rattle.x86_words.specs.declared.insn.X86Insn.{X86Insn}
 use Rattle.x86_words.specs.declared.insn.X86Insn.TheVariants.{Mov, MovImm, MovZero, MovAbs, Load, Store, Alu, AluImm, AluLoad, Lea, LeaScaled}
 use Rattle.x86_words.specs.declared.insn.X86Insn.TheVariants.{ShiftImm, ShiftCl, Not, TestImm, Set, MovByte, MovTwo, MovFour, JumpIf, Jump, Ret, Nop}
@@ -17,15 +19,16 @@ use Rattle.x86_words.specs.declared.insn.X86Insn.TheVariants as x86
 use Rattle.x86_words.specs.Encoding.{length_of}
 use Rattle.native_steps.specs.declared.places.Place.{Place}
 use Rattle.native_steps.specs.declared.places.Place.TheVariants.{Register, Slot, Nowhere}
-use Rattle.native_steps.specs.Places.{Places, ArePlaces, place_at, is_callee_saved, RAX}
-use Rattle.native_steps.specs.Sequences.{keep_place, op_code, keep, computed_code, action_code, insn_code}
+use Rattle.native_steps.specs.Places.{Places, ArePlaces, place_at, is_callee_saved, RAX, RCX, FUEL}
+use Rattle.native_steps.specs.Sequences.{keep_place, op_code, keep, computed_code, load_code, load_around_code, action_code, insn_code}
 use Rattle.native_steps.specs.Straight.{total_length}
 use Rattle.native_code.specs.declared.insn.NativeInsn.{NativeInsn}
+use Rattle.native_code.specs.declared.insn.NativeInsn.TheVariants.{Plain, GoIf}
 use Rattle.native_code.specs.Heads.{is_loop_head}
 use Rattle.native_code.specs.Blocks.{for_registers, save_place, restore_place, enter, clear, entry_code, exit_code, is_argument, plain, branch_code, end_code}
-use Rattle.native_code.specs.Blocks.{fuel_code, block_of, block_at, front_code}
+use Rattle.native_code.specs.Blocks.{return_code, spent_code, fuel_code, block_at, RDX}
 use Rattle.native_code.specs.Layout.{code_length, distance, offset_of}
-use Rattle.native_code.proofs.Texts.{length-append-code, plain-length, offset-next, block}
+use Rattle.native_code.proofs.Texts.{length-append-code, plain-length, offset-next}
 
 -- ---- a displacement
 
@@ -126,7 +129,7 @@ restore_place-count Nowhere r = omega arith
 
 module _ (p : Places) (places : ArePlaces p) where
   keep-count : (r : ℕ) → length (keep p r) ≤ 1
-  keep-count r = either-count _ [] (keep_place (place_at p r) r RAX) 1 (omega arith) (keep_place-count (place_at p r) r RAX)
+  keep-count r = either-count (eqb r 31) [] (keep_place (place_at p r) r RAX) 1 (omega arith) (keep_place-count (place_at p r) r RAX)
 
   enter-count : (r from : ℕ) → length (enter p r from) ≤ 2
   enter-count r from =
@@ -139,31 +142,32 @@ module _ (p : Places) (places : ArePlaces p) where
   entry-short =
       let n = places.count in
       let clears = registers-count (clear p) 2 (length p) clear-count in
-      let a = enter-count 18 2 in
-      let b = enter-count 16 0 in
-      let c = enter-count 17 1 in
-      let last : length (for_registers (clear p) (length p)) + 1 ≤ 63 = omega (arith, clears, n) in
-      let three = length-append (enter p 17 1) _ in
-      let two = length-append (enter p 16 0) _ in
-      let one = length-append (enter p 18 2) _ in
-      plain-short (entry_code p) 80 (omega (arith, a, b, c, last, one, two, three))
+      let zeros : List X86Insn = MovZero RAX 0 ∷ for_registers (clear p) (length p) in
+      let last : length zeros ≤ 63 = omega (arith, clears, n) in
+      let second : length (enter p 17 RCX ++ zeros) ≤ 65 = both-count (enter p 17 RCX) zeros 2 63 (enter-count 17 RCX) last in
+      let first : length (enter p 16 RAX ++ (enter p 17 RCX ++ zeros)) ≤ 67 =
+      both-count (enter p 16 RAX) (enter p 17 RCX ++ zeros) 2 65 (enter-count 16 RAX) second in
+      let all : length (enter p 18 RDX ++ (enter p 16 RAX ++ (enter p 17 RCX ++ zeros))) ≤ 69 =
+      both-count (enter p 18 RDX) (enter p 16 RAX ++ (enter p 17 RCX ++ zeros)) 2 67 (enter-count 18 RDX) first in
+      plain-short (entry_code p) 80 (omega (arith, all))
 
   exit-count : (why : ℕ) → length (exit_code p why) ≤ 33
   exit-count why =
       let n = places.count in
       let all = registers-count (λ r. restore_place (place_at p r) r) 1 (length p) (λ r. restore_place-count (place_at p r) r) in
-      let e = length-append (for_registers (λ r. restore_place (place_at p r) r) (length p)) (MovZero 2 why ∷ Ret ∷ []) in
-      omega (arith, n, all, e)
+      let some : length (for_registers (λ r. restore_place (place_at p r) r) (length p)) ≤ 31 = omega (arith, n, all) in
+      both-count (for_registers (λ r. restore_place (place_at p r) r) (length p)) (MovZero RDX why ∷ Ret ∷ []) 31 2 some (omega arith)
 
   action-count : (e : Action) → length (action_code p e) ≤ 6
-  action-count (actions.Compute to (Sum base disp)) = let k = keep-count to in omega (arith, k)
+  action-count (actions.Compute to (Sum base disp)) =
+      let k = both-count (computed_code p (Sum base disp)) (keep p to) 2 1 (omega arith) (keep-count to) in omega (arith, k)
   action-count (actions.Compute to (Applied op left right)) =
-      let k = keep-count to in
       let o = op-count op in
-      let e = length-append (computed_code p (Applied op left right)) (keep p to) in
-      omega (arith, k, o, e)
-  action-count (actions.Load to base disp) = let k = keep-count to in omega (arith, k)
-  action-count (actions.LoadAround to base disp) = let k = keep-count to in omega (arith, k)
+      both-count (computed_code p (Applied op left right)) (keep p to) 5 1 (omega (arith, o)) (keep-count to)
+  action-count (actions.Load to base disp) =
+      let k = both-count (load_code p base disp) (keep p to) 2 1 (omega arith) (keep-count to) in omega (arith, k)
+  action-count (actions.LoadAround to base disp) =
+      let k = both-count (load_around_code p base disp) (keep p to) 4 1 (omega arith) (keep-count to) in omega (arith, k)
   action-count (actions.Store from base disp) = omega arith
   action-count (actions.Branching Always) = omega arith
   action-count (actions.Branching (When c r)) = omega arith
@@ -176,7 +180,7 @@ module _ (p : Places) (places : ArePlaces p) where
 
   end-short : (e : Action) (jump : Option ℕ) → code_length (end_code p e jump) ≤ 340
   end-short (actions.Branching test) jump = branch-short test jump
-  end-short actions.Return jump = let h = exit-count 0 in plain-short _ 34 (omega (arith, h))
+  end-short actions.Return jump = let h = exit-count 0 in plain-short (return_code p) 34 (omega (arith, h))
   end-short (actions.Compute to word) jump = omega arith
   end-short (actions.Load to base disp) jump = omega arith
   end-short (actions.LoadAround to base disp) jump = omega arith
@@ -188,9 +192,10 @@ module _ (p : Places) (places : ArePlaces p) where
     fuel-short false l h = omega arith
 
     block-short : (k : ℕ) (o : Option Insn) → code_length (block_at p metered code k o) ≤ 413
-    block-short k None = let h = exit-count 1 in let s = plain-short (MovZero 0 0 ∷ exit_code p 1) 34 (omega (arith, h)) in omega (arith, s)
+    block-short k None = let h = exit-count 1 in let s = plain-short (spent_code p) 34 (omega (arith, h)) in omega (arith, s)
     block-short k (Some insn) =
-        let f = fuel-short _ _ (omega arith) in
+        let f : code_length (fuel_code p metered code k) ≤ 13 =
+        fuel-short (metered && is_loop_head code k) (Plain (AluImm alu.Sub FUEL (pos 1)) ∷ GoIf Below (length code) ∷ []) (omega arith) in
         let c = plain-short (insn_code p insn) 6 (action-count (action_of insn)) in
         let e = end-short (action_of insn) (jump_of k insn) in
         let two = length-append-code (plain (insn_code p insn)) (end_code p (action_of insn) (jump_of k insn)) in

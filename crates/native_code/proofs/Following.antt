@@ -22,7 +22,8 @@ use Rattle.native_steps.specs.Agreement.{Call, IsLent, Agrees}
 use Rattle.native_steps.proofs.Frames.{wrote, wrote-same, wrote-reads, agrees-same}
 use Rattle.native_steps.proofs.Encodable.{straight}
 use Rattle.native_code.specs.Heads.{IsLoopHead, is_loop_head, if_moved, arrivals}
-use Rattle.native_code.specs.Blocks.{block_at, exit_code, spent_code}
+use Rattle.native_code.specs.declared.insn.NativeInsn.{NativeInsn}
+use Rattle.native_code.specs.Blocks.{fuel_code, block_at, exit_code, spent_code}
 use Rattle.native_code.specs.Layout.{code_length, placed_from, offset_of, native_text}
 use Rattle.native_code.specs.Calls.{ArePlacesOf, spend, IsReturn, AgreesAt, fuel_of, Comes, Leaves, Follows, Simulates, Spends}
 use Rattle.native_code.proofs.Texts.{Lies, lies-as, lies-back, placed-plain, block-lies, block}
@@ -121,14 +122,15 @@ module _ (p : Places) (metered : Bool) (code : List Insn) (ok : IsCode code) (of
     module _ (insn : Insn) (here : slice_get code s.index ≡ Some insn) where
       charged-here : cond takes 1 0 ≤ call.fuel → Charged p metered code ok of call s x takes
       charged-here enough =
-          let lies : Lies text x.at (placed_from offset x.at _) =
-          subst (λ n. Lies text n (placed_from offset n _)) (sym agrees.at) (charging-lies p metered code ok of s.index insn here) in
+          let first : List NativeInsn = fuel_code p metered code s.index in
+          let lies : Lies text x.at (placed_from offset x.at first) =
+          subst (λ n. Lies text n (placed_from offset n first)) (sym agrees.at) (charging-lies p metered code ok of s.index insn here) in
           let n = near p metered code ok of s.index insn here in
           let a = agrees.at in
           charged p metered code ok of takes call s x agrees.agrees (omega (arith, n, a)) lies enough
 
       at-middle : (c : Charged p metered code ok of call s x takes) → c.end.at ≡ middle p metered code ok of s.index insn here
-      at-middle c = c.at ∙ ap (λ n. n + _) agrees.at
+      at-middle c = c.at ∙ ap (λ n. n + code_length (fuel_code p metered code s.index)) agrees.at
 
       state-after : (u : State) → insn_outcome insn s ≡ (moves.Moved, u) → IsState u
       state-after u e =
@@ -270,8 +272,9 @@ module _ (p : Places) (code : List Insn) (ok : IsCode code) (of : ArePlacesOf p 
       missing : (insn : Insn) → slice_get code s.index ≡ Some insn → at_head ≡ true → call.fuel ≡ 0 → Spending
       missing insn here head none =
           let off : ℕ → ℕ = offset_of p true code in
-          let lies : Lies text_of x.at (placed_from off x.at _) =
-          subst (λ k. Lies text_of k (placed_from off k _)) (sym a.at) (charging-lies p true code ok of s.index insn here) in
+          let first : List NativeInsn = fuel_code p true code s.index in
+          let lies : Lies text_of x.at (placed_from off x.at first) =
+          subst (λ k. Lies text_of k (placed_from off k first)) (sym a.at) (charging-lies p true code ok of s.index insn here) in
           let near_by = near p true code ok of s.index insn here in
           let at = a.at in
           let sp : Spent p true code ok of call s x =

@@ -1,11 +1,12 @@
 -- Runs that lead from a state to another, however many steps follow.
-use Rattle.std.proofs.Common.{◌≡◌, ℕ, zero, suc, ◌+◌, Bool, List, [], ◌∷◌, length, Some, All, refl, sym, ap, ◌∙◌, arith}
+use Rattle.std.proofs.Common.{◌≡◌, ℕ, suc, ◌+◌, List, ◌∷◌, length, Some, refl, sym, ap, ◌∙◌, arith}
 use Rattle.x86_words.specs.declared.insn.X86Insn.{X86Insn}
 use Rattle.x86_words.specs.Encoding.{length_of, IsX86Insn}
 use Rattle.x86_machine.specs.declared.outcome.X86Step.TheVariants as steps
 use Rattle.x86_machine.specs.declared.outcome.X86Outcome.TheVariants as outcomes
 use Rattle.x86_machine.specs.Machine.{X86, x86_outcome, x86_run}
-use Rattle.native_steps.specs.Straight.{x86_straight, IsStraight}
+use Rattle.native_steps.specs.Straight.{x86_straight}
+use Rattle.native_steps.proofs.Encodable.{Straight}
 use Rattle.native_code.proofs.Texts.{Lies}
 use Rattle.native_code.proofs.Walking.{run-moved, run-straight}
 
@@ -25,8 +26,8 @@ reach-both text x y z a b = record {
       ap (λ m. x86_run text m x) one ∙ a.runs (b.count + n) ∙ b.runs n;
 }
 
-pub reach-straight : (text : List ℕ) (l : List X86Insn) (x y : X86) → Lies text x.at l → All IsStraight l → x86_straight l x ≡ Some y → Reaches text x y
-reach-straight text l x y h all e = record { count = length l; runs = λ n. run-straight l text n x y h all e }
+pub reach-straight : (text : List ℕ) (l : List X86Insn) (x y : X86) → Lies text x.at l → Straight l → x86_straight l x ≡ Some y → Reaches text x y
+reach-straight text l x y h all e = record { count = length l; runs = λ n. run-straight l text n x y h all.all e }
 
 pub reach-one : (text : List ℕ) (x y : X86) (i : X86Insn) (rest : List X86Insn) → IsX86Insn i → Lies text x.at (i ∷ rest) →
     x86_outcome x (x.at + length_of i) i ≡ (steps.Moved, y) →

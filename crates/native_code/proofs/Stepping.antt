@@ -41,7 +41,7 @@ use Rattle.native_steps.specs.Agreement.{Call, IsLent, Agrees, EndsInAgreement, 
 use Rattle.native_steps.proofs.Frames.{wrote, SameBut, wrote-is, wrote-reads, wrote-other, flags-same, agrees-same, isnt}
 use Rattle.native_steps.proofs.Operands.{agrees-index, fetched, with_reg, with-agrees, with-reads}
 use Rattle.native_steps.proofs.Instructions.{simulates, tests}
-use Rattle.native_steps.proofs.Encodable.{fetch-straight, insns-straight}
+use Rattle.native_steps.proofs.Encodable.{fetch-straight, sequence-straight}
 use Rattle.native_code.specs.declared.insn.NativeInsn.{NativeInsn}
 use Rattle.native_code.specs.declared.insn.NativeInsn.TheVariants.{Plain, Go, GoIf}
 use Rattle.native_code.specs.Heads.{is_loop_head}
@@ -330,7 +330,7 @@ module _ (p : Places) (metered : Bool) (code : List Insn) (ok : IsCode code) (of
         -- the sequence, and nothing more
         falls : ending ≡ [] → EndsInAgreement p call insns x t → t.index ≡ suc i → Moves call t x
         falls none e index =
-            let reaches : Reaches text x e.end = reach-straight text insns x e.end lie-here (insns-straight p insn places (ok.encoded i insn here)) e.runs in
+            let reaches : Reaches text x e.end = reach-straight text insns x e.end lie-here (sequence-straight p insn places (ok.encoded i insn here)) e.runs in
             let a = e.at in
             let m = at_middle in
             let n = next-is in
@@ -367,7 +367,7 @@ module _ (p : Places) (metered : Bool) (code : List Insn) (ok : IsCode code) (of
             let b : Bool = takes c (read_reg s.regs r) in
             let y : X86 = d.comes.end in
             let to-y : Reaches text x y =
-            reach-straight text insns x y lie-here (insns-straight p insn places (ok.encoded i insn here))
+            reach-straight text insns x y lie-here (sequence-straight p insn places (ok.encoded i insn here))
             (subst (λ l. x86_straight l x ≡ Some y) (sym seq) d.comes.runs) in
             let at_after : y.at ≡ after =
             let m = at_middle in

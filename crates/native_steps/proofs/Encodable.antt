@@ -8,11 +8,13 @@ use Rattle.word_ops.specs.declared.Op.TheVariants as ops
 use Rattle.alpha_words.specs.declared.insn.Rhs.{Rhs}
 use Rattle.alpha_words.specs.declared.insn.Rhs.TheVariants.{Reg, Lit}
 use Rattle.alpha_words.specs.declared.insn.Cond.{Cond}
+use Rattle.alpha_words.specs.declared.insn.Insn.{Insn}
 use Rattle.alpha_words.specs.declared.insn.Cond.TheVariants.{LowClear, Zero, Negative, NotPositive, LowSet, NotZero, NotNegative, Positive}
 use Rattle.alpha_words.specs.Encoding.{IsRhs, HasBits}
 use Rattle.alpha_words.specs.Formats.{format_of}
 use Rattle.alpha_cfg.specs.Actions.{Computed, Sum, Applied, Test, Always, When, Action, action_of, HasOperands}
 use Rattle.alpha_cfg.specs.Actions as actions
+use Rattle.alpha_cfg.specs.Flow.{IsInsn}
 use Rattle.alpha_cfg.proofs.States.{action_of-operands}
 use Rattle.x86_words.specs.declared.operators.AluOp.TheVariants as alu
 use Rattle.x86_words.specs.declared.operators.ShiftOp.{ShiftOp}
@@ -28,7 +30,7 @@ use Rattle.x86_words.specs.Encoding.{FitsFields, has_operands}
 use Rattle.native_steps.specs.declared.places.Place.{Place}
 use Rattle.native_steps.specs.declared.places.Place.TheVariants.{Register, Slot, Nowhere}
 use Rattle.native_steps.specs.Places.{Places, ArePlaces, place_at, slot, RAX, RCX, AREA}
-use Rattle.native_steps.specs.Sequences.{fetch_place, keep_place, op_code, cond_test, fetch, keep, fetch_rhs, computed_code, test_code, action_code}
+use Rattle.native_steps.specs.Sequences.{fetch_place, keep_place, op_code, cond_test, fetch, keep, fetch_rhs, computed_code, action_code, insn_code}
 use Rattle.native_steps.specs.Straight.{goes_on, IsStraight}
 use Rattle.native_steps.specs.Agreement.{StraightInsns}
 use Rattle.native_steps.proofs.Frames.{free-below}
@@ -36,20 +38,21 @@ use Rattle.native_steps.proofs.Instructions.{WritesRegister, format-writes}
 
 -- ---- lists
 
-abbrev pub Straight : List X86Insn → Type 0
-Straight l = All IsStraight l
+-- all of them have bytes, and go on at the next
+pub record Straight (l : List X86Insn) : Type 0 where
+  pub all : All IsStraight l
 
 pub no-insn : Straight []
-no-insn = All-nil IsStraight
+no-insn = record { all = All-nil IsStraight }
 
 pub then-straight : (i : X86Insn) (rest : List X86Insn) → IsStraight i → Straight rest → Straight (i ∷ rest)
-then-straight i rest h k = All-cons IsStraight i rest h k
+then-straight i rest h k = record { all = All-cons IsStraight i rest h k.all }
 
 pub one-straight : (i : X86Insn) → IsStraight i → Straight (i ∷ [])
 one-straight i h = then-straight i [] h no-insn
 
 pub both-straight : (l m : List X86Insn) → Straight l → Straight m → Straight (l ++ m)
-both-straight l m h k = All-append IsStraight l m h k
+both-straight l m h k = record { all = All-append IsStraight l m h.all k.all }
 
 -- an instruction that isn't a jump, from its widths
 pub straight : (i : X86Insn) → FitsFields i → has_operands i ≡ true → goes_on i ≡ true → IsStraight i
@@ -182,6 +185,9 @@ module _ (p : Places) (places : ArePlaces p) where
       then-straight _ _ (fetch-straight r RAX h rax-low) (one-straight _ (test-straight c))
   action-straight actions.Return h w = no-insn
 
-pub insns-straight : StraightInsns
-insns-straight = λ p insn places encoded.
+pub sequence-straight : (p : Places) (insn : Insn) → ArePlaces p → IsInsn insn → Straight (insn_code p insn)
+sequence-straight p insn places encoded =
     action-straight p places (action_of insn) (action_of-operands insn encoded) (format-writes (format_of insn) encoded.0 encoded.1)
+
+pub insns-straight : StraightInsns
+insns-straight = λ p insn places encoded. (sequence-straight p insn places encoded).all
