@@ -21,6 +21,10 @@ use Rattle.native_steps.proofs.Frames.{wrote, wrote-is, wrote-reads, wrote-other
 use Rattle.native_steps.proofs.Operands.{slot-is, slot-allowed, placed-below, outside, same-register}
 use Rattle.native_code.specs.Blocks.{save_place, enter, is_argument, RDX}
 
+-- one register more
+abbrev pub With : ℕ → (ℕ → Type 0) → ℕ → Type 0
+With r D k = (k ≡ r) ⊎ D k
+
 module _ (p : Places) (call : Call) (s : State) (places : ArePlaces p) (lent : IsLent call s.rights) where
   -- The registers that are done are in their places, and what these had is saved.
   pub record Partly (Done : ℕ → Type 0) (x : X86) : Type 0 where
@@ -63,10 +67,6 @@ module _ (p : Places) (call : Call) (s : State) (places : ArePlaces p) (lent : I
     untouched = λ q c none. h.untouched q c (λ r d e. none r e);
     memory = h.memory;
   }
-
-  -- one register more
-  abbrev pub With : ℕ → (ℕ → Type 0) → ℕ → Type 0
-  With r D k = (k ≡ r) ⊎ D k
 
   -- a word of a register that is no place stays
   abbrev pub SameTemporaries : X86 → X86 → Type 0

@@ -42,7 +42,7 @@ where-is p q zero = inr (λ r h e. absurd (omega (arith, h)))
 where-is p q (suc n) = elim (is-there (place_at p n) q) [
   | inl here ↦ inl (n, omega arith, here)
   | inr apart ↦ elim (where-is p q n) [
-    | inl w ↦ inl (w.0, let h = w.1 in omega (arith, h), w.2)
+    | inl w ↦ let h = w.1 in inl (w.0, omega (arith, h), w.2)
     | inr none ↦ inr (λ r h e. elim (cases_eq r n) [
       | inl same ↦ apart (ap (place_at p) (sym same) ∙ e)
       | inr other ↦ none r (omega (arith, h, other)) e
@@ -194,6 +194,14 @@ module _ (p : Places) (call : Call) (s : State) (places : ArePlaces p) (lent : I
         let b = one-back (place_at p n) n a.end (omega (arith, h)) refl a.restored in
         record { end = b.end; runs = both-run (restores n) (restore_place (place_at p n) n) x a.end b.end a.runs b.runs; restored = b.restored }
 
+    -- whether an Alpha register took it or not
+    has-back : (q n : ℕ) (y : X86) → n ≡ 31 → Restored n y → is_callee_saved q ≡ true → Where p q n →
+        slice_index y.regs q ≡ slice_index call.registers q
+    has-back q n y n-is h c (inl w) = h.back w.0 q w.1 w.2 c
+    has-back q n y n-is h c (inr none) =
+        h.still q none
+        ∙ agrees.untouched q c (λ r e. let low : r < 31 = placed-below p call places r (ap is_somewhere e) in none r (omega (arith, low, n-is)) e)
+
     -- ---- the end
 
     -- some number of steps ends the call
@@ -230,11 +238,7 @@ module _ (p : Places) (call : Call) (s : State) (places : ArePlaces p) (lent : I
           returns = record {
             word_is = other 0 (λ e. omega (arith, e)) ∙ h.rax ∙ rax;
             why_is = wrote-reads y (y.at + 6) y.flags RDX why h.machine (omega arith);
-            kept = λ q c. other q (λ e. isnt is_callee_saved q RDX c refl e) ∙ elim (where-is p q n) [
-              | inl w ↦ h.back w.0 q w.1 w.2 c
-              | inr none ↦ h.still q none ∙ agrees.untouched q c
-                  (λ r e. none r (let low : r < 31 = placed-below p call places r (ap is_somewhere e) in omega (arith, low, n-is)) e)
-            ];
+            kept = λ q c. other q (λ e. isnt is_callee_saved q RDX c refl e) ∙ has-back q n y n-is h c (where-is p q n);
             memory = λ b free. ap (λ m. read m b) h.memory ∙ agrees.memory b free;
           };
         }

@@ -1,13 +1,16 @@
 -- One Alpha step: fuel, the block's sequence, and where it goes on.
 use Rattle.std.proofs.Common.{◌≡◌, ◌≢◌, ℕ, zero, suc, ◌+◌, ◌-◌, ◌^◌, ◌<◌, ◌≤◌, Bool, true, false, cond, List, [], ◌∷◌, ◌++◌, length, slice_get}
-use Rattle.std.proofs.lemmas.Nat.{mod_below}
 use Rattle.std.proofs.Common.{FitsSigned, slice_index, Option, Some, None, ℤ, pos, negsuc, ◌+ℤ◌, refl, sym, ap, ◌∙◌, subst, arith, inl, inr}
 use Rattle.std.specs.Int.{w32}
 use Rattle.std.proofs.lemmas.Bool.{ne_eqb, eq-eqb}
 use Rattle.std.proofs.lemmas.Option.{slice_get_within}
+use Rattle.word_ops.specs.declared.Op.TheVariants as ops
+use Rattle.word_ops.specs.Memory.{read, write}
+use Rattle.word_ops.specs.Rights.{allowed}
 use Rattle.word_ops.specs.Words.{test_of}
+use Rattle.word_ops.proofs.Bounds.{word_of-below}
 use Rattle.word_ops.specs.declared.Rel.TheVariants.{Eq}
-use Rattle.word_ops.specs.Registers.{read_reg}
+use Rattle.word_ops.specs.Registers.{read_reg, write_reg}
 use Rattle.alpha_words.specs.declared.insn.Insn.{Insn}
 use Rattle.alpha_words.specs.declared.insn.Cond.{Cond}
 use Rattle.alpha_words.specs.declared.memory.MemoryOp.{MemoryOp}
@@ -17,12 +20,13 @@ use Rattle.alpha_words.specs.declared.insn.Format.TheVariants as F
 use Rattle.alpha_words.specs.Formats.{format_of}
 use Rattle.alpha_words.specs.Lawful.{format_target, target_of}
 use Rattle.alpha_cfg.specs.declared.outcome.Kind.{Kind}
+use Rattle.alpha_cfg.specs.declared.outcome.Kind.TheVariants as kinds
 use Rattle.alpha_cfg.specs.declared.outcome.Step.{Step}
 use Rattle.alpha_cfg.specs.declared.outcome.Step.TheVariants as moves
 use Rattle.alpha_cfg.specs.Actions.{Test, Always, When, Action, action_of, format_action, memory_action}
 use Rattle.alpha_cfg.specs.Actions as actions
 use Rattle.alpha_cfg.specs.Flow.{IsCode, InsideOf, landing, jump_of}
-use Rattle.alpha_cfg.specs.Machine.{State, IsState, access_outcome, state_at, passes, takes, action_outcome, insn_outcome}
+use Rattle.alpha_cfg.specs.Machine.{State, IsState, access_outcome, address_of, aligned, state_at, takes, action_outcome, insn_outcome}
 use Rattle.x86_words.specs.declared.operators.AluOp.TheVariants as alu
 use Rattle.x86_words.specs.declared.operators.X86Cond.TheVariants.{Below}
 use Rattle.x86_words.specs.declared.insn.X86Insn.{X86Insn}
@@ -155,7 +159,7 @@ module _ (p : Places) (metered : Bool) (code : List Insn) (ok : IsCode code) (of
     took = wrote x (x.at + 7) (Some (alu_flags alu.Sub had 1)) FUEL lessened
 
     lessened-below : lessened < 2 ^ 64
-    lessened-below = mod_below (had + 2 ^ 64 - 1) (2 ^ 64) (omega arith)
+    lessened-below = word_of-below ops.Sub had 1 (agrees.machine.words FUEL) (omega arith)
 
     says : AfterSubOne had
     says = after_sub_one had (agrees.machine.words FUEL)
@@ -201,7 +205,8 @@ module _ (p : Places) (metered : Bool) (code : List Insn) (ok : IsCode code) (of
       Lies text x.at (placed_from offset x.at (taking b)) → units b ≤ call.fuel → Charged call s x b
   charged false call s x a near lies enough =
       let none : call.fuel ≡ call.fuel - 0 = omega arith in
-      record { end = x; reaches = reach-none text x; at = omega arith; agrees = agrees-fuel p call (call.fuel - 0) s x a (a.fuel ∙ none) }
+      let same : x.at ≡ x.at + 0 = omega arith in
+      record { end = x; reaches = reach-none text x; at = same; agrees = agrees-fuel p call (call.fuel - 0) s x a (a.fuel ∙ none) }
   charged true call s x a near lies enough =
       let f = a.fuel in
       let some : slice_index x.regs FUEL ≢ 0 = λ e. omega (arith, e, f, enough) in
@@ -210,7 +215,7 @@ module _ (p : Places) (metered : Bool) (code : List Insn) (ok : IsCode code) (of
       record {
         end = decided call s x a false;
         reaches = reach-decided call s x a false near lies (ne_eqb (slice_index x.regs FUEL) 0 some);
-        at = omega arith;
+        at = let e : x.at + 7 + 6 ≡ x.at + (7 + (6 + 0)) = omega arith in e;
         agrees = subst (λ w. Agrees p (record call { fuel = w }) s (decided call s x a false)) less (decided-agrees call s x a false);
       }
 
@@ -409,13 +414,23 @@ module _ (p : Places) (metered : Bool) (code : List Insn) (ok : IsCode code) (of
         suc-index : s.index + 1 ≡ suc i
         suc-index = omega (arith, at_index)
 
+        -- after a load, and after a store
+        abbrev loaded : ℕ → ℕ → State
+        loaded to a = record s { index = s.index + 1; regs = write_reg s.regs to (read s.memory a) }
+
+        abbrev kept : ℕ → ℕ → State
+        kept a from = record s { index = s.index + 1; memory = write s.memory a (read_reg s.regs from) }
+
         -- where an action that is no branch goes on
         next-index : (e : Action) (jump : Option ℕ) → end_code p e jump ≡ [] → ((test : Test) → e ≡ actions.Branching test → ⊥) →
             action_outcome e jump s ≡ (moves.Moved, t) → t.index ≡ suc i
         next-index (actions.Compute to word) jump none apart e = ap (λ (q : Step × State). q.1.index) (sym e) ∙ suc-index
-        next-index (actions.Load to base disp) jump none apart e = access-next _ _ _ _ suc-index e
-        next-index (actions.LoadAround to base disp) jump none apart e = access-next _ _ _ _ suc-index e
-        next-index (actions.Store from base disp) jump none apart e = access-next _ _ _ _ suc-index e
+        next-index (actions.Load to base disp) jump none apart e =
+            let a = address_of s.regs base disp in access-next kinds.Load (allowed s.rights.reads a) a (loaded to a) suc-index e
+        next-index (actions.LoadAround to base disp) jump none apart e =
+            let a = aligned (address_of s.regs base disp) in access-next kinds.Load (allowed s.rights.reads a) a (loaded to a) suc-index e
+        next-index (actions.Store from base disp) jump none apart e =
+            let a = address_of s.regs base disp in access-next kinds.Store (allowed s.rights.writes a) a (kept a from) suc-index e
         next-index (actions.Branching test) jump none apart e = absurd (apart test refl)
         next-index actions.Return jump none apart e = let wrong : moves.Returned ≡ moves.Moved = ap (λ q. q.0) e in absurd cc
 
@@ -496,9 +511,12 @@ module _ (p : Places) (metered : Bool) (code : List Insn) (ok : IsCode code) (of
         -- only a return returns, and it changes nothing
         returned : (e : Action) (jump : Option ℕ) (v : State) → action_outcome e jump s ≡ (moves.Returned, v) → (e ≡ actions.Return) × (v ≡ s)
         returned (actions.Compute to word) jump v e = let wrong : moves.Moved ≡ moves.Returned = ap (λ q. q.0) e in (cc, cc)
-        returned (actions.Load to base disp) jump v e = absurd (access-stays _ _ _ _ v e)
-        returned (actions.LoadAround to base disp) jump v e = absurd (access-stays _ _ _ _ v e)
-        returned (actions.Store from base disp) jump v e = absurd (access-stays _ _ _ _ v e)
+        returned (actions.Load to base disp) jump v e =
+            let a = address_of s.regs base disp in absurd (access-stays kinds.Load (allowed s.rights.reads a) a (loaded to a) v e)
+        returned (actions.LoadAround to base disp) jump v e =
+            let a = aligned (address_of s.regs base disp) in absurd (access-stays kinds.Load (allowed s.rights.reads a) a (loaded to a) v e)
+        returned (actions.Store from base disp) jump v e =
+            let a = address_of s.regs base disp in absurd (access-stays kinds.Store (allowed s.rights.writes a) a (kept a from) v e)
         returned (actions.Branching test) jump v e = let wrong : moves.Moved ≡ moves.Returned = ap (λ q. q.0) e in (cc, cc)
         returned actions.Return jump v e = (refl, ap (λ (q : Step × State). q.1) (sym e))
 

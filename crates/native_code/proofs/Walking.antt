@@ -1,9 +1,9 @@
 -- Runs of the text over instructions that go straight on, and over a jump.
-use Rattle.std.proofs.Common.{◌≡◌, ℕ, suc, ◌+◌, Bool, true, false, cond, List, [], ◌∷◌, length, Option, Some, None, ℤ, pos, ◌+ℤ◌, ◌-ℤ◌, All, refl, sym, ap}
+use Rattle.std.proofs.Common.{◌≡◌, ℕ, suc, ◌+◌, Bool, true, false, cond, List, [], ◌∷◌, length, slice_index, Option, Some, None, ℤ, pos, ◌+ℤ◌, ◌-ℤ◌, All, refl, sym, ap}
 use Rattle.std.proofs.Common.{◌∙◌, subst, arith}
 use Rattle.std.proofs.Math.IntN.{-ℤ-+ℤ_cancel, +ℤ_comm}
 use Rattle.std.proofs.lemmas.List.Elements.{All-head, All-tail}
-use Rattle.word_ops.specs.Memory.{read}
+use Rattle.word_ops.specs.Memory.{read, write}
 use Rattle.word_ops.specs.Rights.{allowed}
 use Rattle.x86_words.specs.declared.operators.X86Cond.{X86Cond}
 use Rattle.x86_words.specs.declared.insn.X86Insn.{X86Insn}
@@ -17,7 +17,7 @@ use Rattle.x86_machine.specs.declared.outcome.X86Step.TheVariants as steps
 use Rattle.x86_machine.specs.declared.outcome.X86Outcome.{X86Outcome}
 use Rattle.x86_machine.specs.declared.outcome.X86Outcome.TheVariants as outcomes
 use Rattle.x86_machine.specs.Flags.{cond_holds}
-use Rattle.x86_machine.specs.Machine.{X86, disp_address, puts, operates, asks, jumps, code_offset, jump_offset, x86_outcome, fetched, x86_step_at}
+use Rattle.x86_machine.specs.Machine.{X86, with_low_byte, disp_address, puts, operates, asks, jumps, code_offset, jump_offset, x86_outcome, fetched, x86_step_at}
 use Rattle.x86_machine.specs.Machine.{x86_ends_with, x86_run}
 use Rattle.x86_machine.proofs.Standing.{stands}
 use Rattle.native_steps.specs.Straight.{after_move, x86_straight, total_length, goes_on, IsStraight}
@@ -60,11 +60,14 @@ module _ (x : X86) (next : ℕ) where
   straight-leads (Load to base disp) on =
       let a = disp_address x base disp in
       if-leads (allowed x.rights.reads a) (puts x next to (read x.memory a)) (λ _. refl)
-  straight-leads (Store base disp from) on = if-leads (allowed x.rights.writes (disp_address x base disp)) _ (λ _. refl)
+  straight-leads (Store base disp from) on = 
+      let a = disp_address x base disp in
+      if-leads (allowed x.rights.writes a) (steps.Moved, record x { at = next; memory = write x.memory a (slice_index x.regs from) }) (λ _. refl)
   straight-leads (AluLoad op to base disp) on =
       let a = disp_address x base disp in
       if-leads (allowed x.rights.reads a) (operates x next op to (read x.memory a)) (λ _. refl)
-  straight-leads (Set c to) on = asks-leads x.flags _ (λ f _. refl)
+  straight-leads (Set c to) on =
+      asks-leads x.flags (λ f. puts x next to (with_low_byte (slice_index x.regs to) (cond_holds c f))) (λ f _. refl)
   straight-leads (JumpIf c disp) on = absurd cc
   straight-leads (Jump disp) on = absurd cc
   straight-leads Ret on = absurd cc
