@@ -273,7 +273,9 @@ module _ (p : Places) (call : Call) (s : State) (places : ArePlaces p) (lent : I
         both-run (enter p 18 RDX) (enter p 16 RAX ++ (enter p 17 RCX ++ (MovZero RAX 0 ∷ clears))) x3 third-in.end c.end third-in.runs first in
         record {
           end = c.end;
-          runs = then-run (Mov AREA RCX) _ x x1 c.end refl refl (then-run (Mov RAX RDI) _ x1 x2 c.end refl refl (then-run (Mov RCX RSI) _ x2 x3 c.end refl refl all));
+          runs =
+              then-run (Mov AREA RCX) _ x x1 c.end refl refl
+              (then-run (Mov RAX RDI) _ x1 x2 c.end refl refl (then-run (Mov RCX RSI) _ x2 x3 c.end refl refl all));
           agrees = partly-all p call s places lent (Cleared (length p)) c.end (λ r low. inl (omega (arith, low, n-is))) c.partly;
         }
 

@@ -1,5 +1,6 @@
 -- Native code is short, so each displacement fits.
-use Rattle.std.proofs.Common.{◌≡◌, ℕ, zero, suc, ◌+◌, ◌*◌, ◌^◌, ◌<◌, ◌≤◌, Bool, true, false, cond, ◌&&◌, eqb, List, [], ◌∷◌, ◌++◌, length, slice_get, Option, Some, None}
+use Rattle.std.proofs.Common.{◌≡◌, ℕ, zero, suc, ◌+◌, ◌*◌, ◌^◌, ◌<◌, ◌≤◌, Bool, true, false, cond, ◌&&◌, eqb, List, [], ◌∷◌, ◌++◌}
+use Rattle.std.proofs.Common.{length, slice_get, Option, Some, None}
 use Rattle.std.proofs.Common.{ℤ, pos, negsuc, ◌-ℤ◌, FitsSigned, arith, length-append}
 use Rattle.std.specs.Int.{w32}
 use Rattle.std.proofs.lemmas.Int.{ints}
@@ -133,7 +134,8 @@ module _ (p : Places) (places : ArePlaces p) where
 
   enter-count : (r from : ℕ) → length (enter p r from) ≤ 2
   enter-count r from =
-      both-count (save_place (place_at p r) r) (keep_place (place_at p r) r from) 1 1 (save_place-count (place_at p r) r) (keep_place-count (place_at p r) r from)
+      both-count (save_place (place_at p r) r) (keep_place (place_at p r) r from) 1 1
+      (save_place-count (place_at p r) r) (keep_place-count (place_at p r) r from)
 
   clear-count : (r : ℕ) → length (clear p r) ≤ 2
   clear-count r = either-count (is_argument r) [] (enter p r RAX) 2 (omega arith) (enter-count r RAX)

@@ -25,7 +25,7 @@ use Rattle.native_code.specs.Heads.{IsLoopHead, is_loop_head, if_moved, arrivals
 use Rattle.native_code.specs.declared.insn.NativeInsn.{NativeInsn}
 use Rattle.native_code.specs.Blocks.{fuel_code, block_at, exit_code, spent_code}
 use Rattle.native_code.specs.Layout.{code_length, placed_from, offset_of, native_text}
-use Rattle.native_code.specs.Calls.{ArePlacesOf, spend, IsReturn, AgreesAt, fuel_of, Comes, Leaves, Follows, Simulates, Spends}
+use Rattle.native_code.specs.Calls.{ArePlacesOf, spend, IsCallEnd, AgreesAt, fuel_of, Comes, Leaves, Follows, SimulatesRuns, Spends}
 use Rattle.native_code.proofs.Texts.{Lies, lies-as, lies-back, placed-plain, block-lies, block}
 use Rattle.native_code.proofs.Reaching.{Reaches, reach-none, reach-both, reach-one, reached}
 use Rattle.native_code.proofs.Leaving.{leaves}
@@ -67,7 +67,7 @@ head-inside code i e =
 lent-spent : (call : Call) (f : ℕ) (rights : Rights) → IsLent call rights → IsLent (record call { fuel = f }) rights
 lent-spent call f rights h = record { span = h.span; unread = h.unread; unwritten = h.unwritten }
 
-return-spent : (call : Call) (f word why : ℕ) (s : State) (y : X86) → IsReturn (record call { fuel = f }) word why s y → IsReturn call word why s y
+return-spent : (call : Call) (f word why : ℕ) (s : State) (y : X86) → IsCallEnd (record call { fuel = f }) word why s y → IsCallEnd call word why s y
 return-spent call f word why s y h = record { word_is = h.word_is; why_is = h.why_is; kept = h.kept; memory = h.memory }
 
 module _ (p : Places) (metered : Bool) (code : List Insn) (ok : IsCode code) (of : ArePlacesOf p code) where
@@ -201,8 +201,8 @@ module _ (p : Places) (metered : Bool) (code : List Insn) (ok : IsCode code) (of
           let units : ℕ = cond (metered && is_loop_head code s.index) 1 0 in
           let m = steps-on call s x state lent a insn here u (omega (arith, sum, most)) e in
           onward call units (fuel_of p metered code n u) (total n s (moves.Moved, u)) (run_of code n u) x m.end sum m.reaches
-          (rest (spend call units) u m.end (state-after call s x state lent a insn here u e) (lent-after call s x state lent a insn here (call.fuel - units) u e)
-          m.agrees_then (omega (arith, sum, most)))
+          (rest (spend call units) u m.end (state-after call s x state lent a insn here u e)
+          (lent-after call s x state lent a insn here (call.fuel - units) u e) m.agrees_then (omega (arith, sum, most)))
       by-step insn here (moves.Returned, u) e most =
           let sum = sum-is metered (is_loop_head code s.index) 0 in
           ends-so call s x state lent a insn here u (omega (arith, sum, most)) e
@@ -217,7 +217,7 @@ module _ (p : Places) (metered : Bool) (code : List Insn) (ok : IsCode code) (of
   follow zero = follow-none
   follow (suc n) = λ call s x state lent a enough. by-insn n (follow n) call s x state lent a (slice_get code s.index) refl enough
 
-pub follows : Simulates
+pub follows : SimulatesRuns
 follows = λ p metered code call n s x ok of state lent a enough. follow p metered code ok of n call s x state lent a enough
 
 -- ---- out of fuel
@@ -281,7 +281,7 @@ module _ (p : Places) (code : List Insn) (ok : IsCode code) (of : ArePlacesOf p 
           spent p true code ok of call s x a.agrees (omega (arith, near_by, at))
           (subst (λ b. Lies text_of x.at (placed_from off x.at (taking p true code ok of b))) head lies) none in
           let l = spent-leaves call sp.fuel s sp.end lent sp.at sp.agrees in
-          (0, omega arith, leave-by p true code ok of call call.fuel 0 1 s x sp.end sp.reaches (record { count = l.count; end = l.end; left = l.left; returns = l.returns }))
+          (0, omega arith, leave-by p true code ok of call call.fuel 0 1 s x sp.end sp.reaches l)
 
       -- the unit is there
       there : (insn : Insn) → slice_get code s.index ≡ Some insn → (q : Step × State) → insn_outcome insn s ≡ q → cond at_head 1 0 ≤ call.fuel →
@@ -310,7 +310,8 @@ module _ (p : Places) (code : List Insn) (ok : IsCode code) (of : ArePlacesOf p 
       by-head insn here more =
           let as-insn : arrivals code (suc n) s ≡ cond at_head 1 0 + if_moved (insn_outcome insn s).0 (arrivals code n (insn_outcome insn s).1) =
           ap (λ (o : Option Insn). let q = step_at o s in cond at_head 1 0 + if_moved q.0 (arrivals code n q.1)) here in
-          let most : call.fuel < cond at_head 1 0 + if_moved (insn_outcome insn s).0 (arrivals code n (insn_outcome insn s).1) = subst (λ k. call.fuel < k) as-insn more in
+          let most : call.fuel < cond at_head 1 0 + if_moved (insn_outcome insn s).0 (arrivals code n (insn_outcome insn s).1) =
+          subst (λ k. call.fuel < k) as-insn more in
           elim (cases_eq call.fuel 0) [
             | inl none ↦ elim (cases_Bool at_head) [
               | inl head ↦ missing insn here head none

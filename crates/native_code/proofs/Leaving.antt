@@ -21,7 +21,7 @@ use Rattle.native_steps.proofs.Frames.{wrote, wrote-is, wrote-reads, wrote-other
 use Rattle.native_steps.proofs.Operands.{slot-is, slot-allowed, placed-below, same-register}
 use Rattle.native_steps.proofs.Encodable.{Straight, no-insn, one-straight, both-straight, straight, slot-fits}
 use Rattle.native_code.specs.Blocks.{for_registers, restore_place, exit_code, RDX}
-use Rattle.native_code.specs.Calls.{IsReturn}
+use Rattle.native_code.specs.Calls.{IsCallEnd}
 use Rattle.native_code.proofs.Texts.{Lies, lies-front, lies-back}
 use Rattle.native_code.proofs.Walking.{run-step}
 use Rattle.native_code.proofs.Reaching.{Reaches, reach-straight, reach-one, reach-both}
@@ -209,7 +209,7 @@ module _ (p : Places) (call : Call) (s : State) (places : ArePlaces p) (lent : I
       pub count : ℕ
       pub end : X86
       pub left : x86_run text count x ≡ (outcomes.Left, end)
-      pub returns : IsReturn call word why s end
+      pub returns : IsCallEnd call word why s end
 
     pub leaves : (text : List ℕ) (word why : ℕ) → why < 2 ^ 32 → slice_index x.regs 0 ≡ word → Lies text x.at (exit_code p why) → LeavesBy text word why
     leaves text word why small rax lies =

@@ -51,7 +51,7 @@ use Rattle.native_code.specs.declared.insn.NativeInsn.TheVariants.{Plain, Go, Go
 use Rattle.native_code.specs.Heads.{is_loop_head}
 use Rattle.native_code.specs.Blocks.{plain, branch_code, end_code, fuel_code, block_of, block_at, exit_code, return_code}
 use Rattle.native_code.specs.Layout.{native_length, code_length, distance, placed_from, offset_of, native_text}
-use Rattle.native_code.specs.Calls.{ArePlacesOf, spend, IsReturn, AgreesAt}
+use Rattle.native_code.specs.Calls.{ArePlacesOf, spend, IsCallEnd, AgreesAt}
 use Rattle.native_code.proofs.Texts.{plain-length, length-append-code, placed-append, placed-plain, placed-length, Lies, lies-as, lies-front, lies-back}
 use Rattle.native_code.proofs.Texts.{offset-next, block-lies, block}
 use Rattle.native_code.proofs.Walking.{jumped, jumped-if}
@@ -279,7 +279,8 @@ module _ (p : Places) (metered : Bool) (code : List Insn) (ok : IsCode code) (of
 
     second-lies : Lies text middle (insns ++ placed_from offset after ending)
     second-lies =
-        let count : offset i + total_length (placed_from offset (offset i) charging) ≡ middle = ap (λ n. offset i + n) (placed-length offset (offset i) charging) in
+        let count : offset i + total_length (placed_from offset (offset i) charging) ≡ middle =
+        ap (λ n. offset i + n) (placed-length offset (offset i) charging) in
         let parts : second ≡ insns ++ placed_from offset after ending =
         placed-append offset middle (plain insns) ending ∙ ap (λ l. l ++ placed_from offset (middle + code_length (plain insns)) ending)
             (placed-plain offset middle insns)
@@ -351,7 +352,8 @@ module _ (p : Places) (metered : Bool) (code : List Insn) (ok : IsCode code) (of
             let jump : X86Insn = Jump (distance (x.at + 5) (offset target)) in
             let lies : Lies text x.at (jump ∷ []) =
             subst (λ n. Lies text n (Jump (distance (n + 5) (offset target)) ∷ [])) (sym at_after)
-            (lies-as text after (placed_from offset after ending) (placed_from offset after (Go target ∷ [])) (ap (placed_from offset after) last) ending-lies) in
+            (lies-as text after (placed_from offset after ending) (placed_from offset after (Go target ∷ []))
+            (ap (placed_from offset after) last) ending-lies) in
             let far : FitsSigned w32 (distance (x.at + 5) (offset target)) =
             jump-insn (x.at + 5) target (let a = after-small in omega (arith, a, at_after)) (omega (arith, low)) in
             let reaches : Reaches text x end =
@@ -481,7 +483,7 @@ module _ (p : Places) (metered : Bool) (code : List Insn) (ok : IsCode code) (of
           pub count : ℕ
           pub end : X86
           pub left : x86_run text count x ≡ (outcomes.Left, end)
-          pub returns : IsReturn call (slice_index s.regs 0) 0 s end
+          pub returns : IsCallEnd call (slice_index s.regs 0) 0 s end
 
         ends-here : action_of insn ≡ actions.Return → Ends
         ends-here is =

@@ -169,7 +169,8 @@ module _ (p : Places) (metered : Bool) (code : List Insn) where
       lies-front (native_text p metered code) (offset k) (placed_from offset (offset k) (block k)) behind rest
 
   -- the entry stands at the beginning
-  pub entry-lies : (rest : List NativeInsn) (entry : List X86Insn) → native_code p metered code ≡ plain entry ++ rest → Lies (native_text p metered code) 0 entry
+  pub entry-lies : (rest : List NativeInsn) (entry : List X86Insn) → native_code p metered code ≡ plain entry ++ rest →
+      Lies (native_text p metered code) 0 entry
   entry-lies rest entry e =
       let behind : List X86Insn = placed_from offset (0 + code_length (plain entry)) rest in
       let split : placed_from offset 0 (native_code p metered code) ≡ entry ++ behind =

@@ -1,6 +1,6 @@
 -- Runs of the text over instructions that go straight on, and over a jump.
-use Rattle.std.proofs.Common.{◌≡◌, ℕ, suc, ◌+◌, Bool, true, false, cond, List, [], ◌∷◌, length, slice_index, Option, Some, None, ℤ, pos, ◌+ℤ◌, ◌-ℤ◌, All, refl, sym, ap}
-use Rattle.std.proofs.Common.{◌∙◌, subst, arith}
+use Rattle.std.proofs.Common.{◌≡◌, ℕ, suc, ◌+◌, Bool, true, false, cond, List, [], ◌∷◌, length, slice_index, Option, Some, None, ℤ}
+use Rattle.std.proofs.Common.{pos, ◌+ℤ◌, ◌-ℤ◌, All, refl, sym, ap, ◌∙◌, subst, arith}
 use Rattle.std.proofs.Math.IntN.{-ℤ-+ℤ_cancel, +ℤ_comm}
 use Rattle.std.proofs.lemmas.List.Elements.{All-head, All-tail}
 use Rattle.word_ops.specs.Memory.{read, write}
@@ -17,10 +17,10 @@ use Rattle.x86_machine.specs.declared.outcome.X86Step.TheVariants as steps
 use Rattle.x86_machine.specs.declared.outcome.X86Outcome.{X86Outcome}
 use Rattle.x86_machine.specs.declared.outcome.X86Outcome.TheVariants as outcomes
 use Rattle.x86_machine.specs.Flags.{cond_holds}
-use Rattle.x86_machine.specs.Machine.{X86, with_low_byte, disp_address, puts, operates, asks, jumps, code_offset, jump_offset, x86_outcome, fetched, x86_step_at}
-use Rattle.x86_machine.specs.Machine.{x86_ends_with, x86_run}
+use Rattle.x86_machine.specs.Machine.{X86, with_low_byte, disp_address, puts, operates, asks, jumps, code_offset, jump_offset}
+use Rattle.x86_machine.specs.Machine.{x86_outcome, fetched, x86_step_at, x86_ends_with, x86_run}
 use Rattle.x86_machine.proofs.Standing.{stands}
-use Rattle.native_steps.specs.Straight.{after_move, x86_straight, total_length, goes_on, IsStraight}
+use Rattle.native_steps.specs.Straight.{after_move, x86_straight, total_length, falls_through, IsStraight}
 use Rattle.native_code.specs.Layout.{distance}
 use Rattle.native_code.proofs.Texts.{Lies, lies-back, first-stands}
 
@@ -56,7 +56,7 @@ module _ (x : X86) (next : ℕ) where
   asks-leads None go h = λ e. absurd cc
   asks-leads (Some f) go h = h f
 
-  straight-leads : (i : X86Insn) → goes_on i ≡ true → Leads next (x86_outcome x next i)
+  straight-leads : (i : X86Insn) → falls_through i ≡ true → Leads next (x86_outcome x next i)
   straight-leads (Load to base disp) on =
       let a = disp_address x base disp in
       if-leads (allowed x.rights.reads a) (puts x next to (read x.memory a)) (λ _. refl)
@@ -109,7 +109,8 @@ pub jumped : (x : X86) (next to : ℕ) → x86_outcome x next (Jump (distance ne
 jumped x next to = ap (jumps x) (jump-leads next to)
 
 -- by a condition that is known
-chosen : (x : X86) (next to : ℕ) (b : Bool) → jumps x (cond b (jump_offset next (distance next to)) (Some next)) ≡ (steps.Moved, record x { at = cond b to next })
+chosen : (x : X86) (next to : ℕ) (b : Bool) → jumps x (cond b (jump_offset next (distance next to)) (Some next))
+    ≡ (steps.Moved, record x { at = cond b to next })
 chosen x next to true = jumped x next to
 chosen x next to false = refl
 

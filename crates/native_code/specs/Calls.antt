@@ -44,7 +44,7 @@ abbrev pub spend : Call → ℕ → Call
 spend call n = record call { fuel = call.fuel - n }
 
 -- The end of a call: a word in rax, in rdx why it ended; memory outside the area is the Alpha machine's, and the caller's registers are as they were.
-pub record IsReturn (call : Call) (word why : ℕ) (s : State) (y : X86) : Type 0 where
+pub record IsCallEnd (call : Call) (word why : ℕ) (s : State) (y : X86) : Type 0 where
   pub word_is : slice_index y.regs RAX ≡ word
   pub why_is : slice_index y.regs RDX ≡ why
   pub kept : (q : ℕ) → is_callee_saved q ≡ true → slice_index y.regs q ≡ slice_index call.registers q
@@ -72,7 +72,7 @@ module _ (p : Places) (metered : Bool) (code : List Insn) where
     pub count : ℕ
     pub end : X86
     pub left : x86_run (native_text p metered code) count x ≡ (outcomes.Left, end)
-    pub returns : IsReturn call word why s end
+    pub returns : IsCallEnd call word why s end
 
   -- What native code does where the Alpha run has this outcome, in this state, for this fuel.
   abbrev pub Follows : Call → ℕ → Outcome × State → X86 → Type 0
@@ -87,8 +87,8 @@ Called = (p : Places) (metered : Bool) (code : List Insn) (call : Call) (s : Sta
 
 -- From states that agree, native code follows every Alpha run for which the fuel is enough: after so many steps there are states that agree; where the run
 -- returned, the call has ended with its word.
-abbrev pub Simulates : Type 0
-Simulates = (p : Places) (metered : Bool) (code : List Insn) (call : Call) (n : ℕ) (s : State) (x : X86) → IsCode code → ArePlacesOf p code → IsState s
+abbrev pub SimulatesRuns : Type 0
+SimulatesRuns = (p : Places) (metered : Bool) (code : List Insn) (call : Call) (n : ℕ) (s : State) (x : X86) → IsCode code → ArePlacesOf p code → IsState s
     → IsLent call s.rights → AgreesAt p metered code call s x → fuel_of p metered code n s ≤ call.fuel
     → Follows p metered code call (fuel_of p metered code n s) (run_of code n s) x
 

@@ -1,4 +1,4 @@
-//! Native code of Alpha code: an entry, a block for each Alpha instruction, and an end for runs that are out of fuel.
+//! Native code of Alpha code: its blocks, their layout in bytes, and what calls of it do.
 //!
 //! The definitions are in `specs/`:
 //!

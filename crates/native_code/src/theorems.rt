@@ -3,7 +3,7 @@
 ghost use Rattle.std.specs.Prelude.{◌≡◌, ℕ, ◌↔◌, true, List};
 ghost use Rattle.alpha_words.specs.declared.insn.Insn.{Insn};
 ghost use Rattle.native_code.specs.Heads.{IsLoopHead, is_loop_head};
-ghost use Rattle.native_code.specs.Calls.{Called, Simulates, Spends};
+ghost use Rattle.native_code.specs.Calls.{Called, SimulatesRuns, Spends};
 
 /// Proves that the test for loop heads is exact.
 pub fn head_laws()
@@ -18,6 +18,6 @@ pub fn head_laws()
 /// (`simulates`); if not, the call ends with 1 in rdx (`spends`).
 pub fn laws()
     ensures called { Called }
-    ensures simulates { Simulates }
+    ensures simulates { SimulatesRuns }
     ensures spends { Spends }
 {}

@@ -31,7 +31,7 @@ use Rattle.native_steps.specs.declared.places.Place.{Place}
 use Rattle.native_steps.specs.declared.places.Place.TheVariants.{Register, Slot, Nowhere}
 use Rattle.native_steps.specs.Places.{Places, ArePlaces, place_at, slot, RAX, RCX, AREA}
 use Rattle.native_steps.specs.Sequences.{fetch_place, keep_place, op_code, cond_test, fetch, keep, fetch_rhs, computed_code, action_code, insn_code}
-use Rattle.native_steps.specs.Straight.{goes_on, IsStraight}
+use Rattle.native_steps.specs.Straight.{falls_through, IsStraight}
 use Rattle.native_steps.specs.Agreement.{StraightInsns}
 use Rattle.native_steps.proofs.Frames.{free-below}
 use Rattle.native_steps.proofs.Instructions.{WritesRegister, format-writes}
@@ -55,7 +55,7 @@ pub both-straight : (l m : List X86Insn) → Straight l → Straight m → Strai
 both-straight l m h k = record { all = All-append IsStraight l m h.all k.all }
 
 -- an instruction that isn't a jump, from its widths
-pub straight : (i : X86Insn) → FitsFields i → has_operands i ≡ true → goes_on i ≡ true → IsStraight i
+pub straight : (i : X86Insn) → FitsFields i → has_operands i ≡ true → falls_through i ≡ true → IsStraight i
 straight i w o g = record { insn = record { widths = w; operands = o }; on = g }
 
 pub fits : (d : ℤ) → HasBits 31 d → FitsSigned w32 d

@@ -23,13 +23,13 @@ total_length [] = 0
 total_length (i ∷ rest) = length_of i + total_length rest
 
 -- whether an instruction that moves goes on at the next one: all but jumps and `ret`
-abbrev pub goes_on : X86Insn → Bool
-goes_on (JumpIf cond disp) = false
-goes_on (Jump disp) = false
-goes_on Ret = false
-goes_on _ = true
+abbrev pub falls_through : X86Insn → Bool
+falls_through (JumpIf cond disp) = false
+falls_through (Jump disp) = false
+falls_through Ret = false
+falls_through _ = true
 
 -- The instruction has bytes, and goes on at the next one.
 pub record IsStraight (i : X86Insn) : Type 0 where
   pub insn : IsX86Insn i
-  pub on : goes_on i ≡ true
+  pub on : falls_through i ≡ true
