@@ -199,13 +199,16 @@ module _ (p : Places) (metered : Bool) (code : List Insn) (ok : IsCode code) (of
       by-step insn here (moves.Moved, u) e most =
           let sum = sum-is metered (is_loop_head code s.index) (arrivals code n u) in
           let units : ℕ = cond (metered && is_loop_head code s.index) 1 0 in
-          let m = steps-on call s x state lent a insn here u (omega (arith, sum, most)) e in
+          let most-is : cond metered (cond (is_loop_head code s.index) 1 0 + arrivals code n u) 0 ≤ call.fuel = most in
+          let left : cond metered (arrivals code n u) 0 ≤ call.fuel - units = omega (arith, sum, most-is) in
+          let m = steps-on call s x state lent a insn here u (omega (arith, sum, most-is)) e in
           onward call units (fuel_of p metered code n u) (total n s (moves.Moved, u)) (run_of code n u) x m.end sum m.reaches
           (rest (spend call units) u m.end (state-after call s x state lent a insn here u e)
-          (lent-after call s x state lent a insn here (call.fuel - units) u e) m.agrees_then (omega (arith, sum, most)))
+          (lent-after call s x state lent a insn here (call.fuel - units) u e) m.agrees_then left)
       by-step insn here (moves.Returned, u) e most =
           let sum = sum-is metered (is_loop_head code s.index) 0 in
-          ends-so call s x state lent a insn here u (omega (arith, sum, most)) e
+          let most-is : cond metered (cond (is_loop_head code s.index) 1 0 + 0) 0 ≤ call.fuel = most in
+          ends-so call s x state lent a insn here u (omega (arith, sum, most-is)) e
       by-step insn here (moves.Blocked index kind addr, u) e most = tt
 
       by-insn : (o : Option Insn) → slice_get code s.index ≡ o → total n s (step_at o s) ≤ call.fuel →
@@ -276,9 +279,9 @@ module _ (p : Places) (code : List Insn) (ok : IsCode code) (of : ArePlacesOf p 
           let lies : Lies text_of x.at (placed_from off x.at first) =
           subst (λ k. Lies text_of k (placed_from off k first)) (sym a.at) (charging-lies p true code ok of s.index insn here) in
           let near_by = near p true code ok of s.index insn here in
-          let at = a.at in
+          let start = a.at in
           let sp : Spent p true code ok of call s x =
-          spent p true code ok of call s x a.agrees (omega (arith, near_by, at))
+          spent p true code ok of call s x a.agrees (omega (arith, near_by, start))
           (subst (λ b. Lies text_of x.at (placed_from off x.at (taking p true code ok of b))) head lies) none in
           let l = spent-leaves call sp.fuel s sp.end lent sp.at sp.agrees in
           (0, omega arith, leave-by p true code ok of call call.fuel 0 1 s x sp.end sp.reaches l)
@@ -290,9 +293,11 @@ module _ (p : Places) (code : List Insn) (ok : IsCode code) (of : ArePlacesOf p 
       there insn here (moves.Moved, u) e enough more =
           let m = steps-on p true code ok of call s x state lent a insn here u enough e in
           let units : ℕ = cond at_head 1 0 in
+          let more-is : call.fuel < cond at_head 1 0 + arrivals code n u = more in
+          let less : call.fuel - units < arrivals code n u = omega (arith, enough, more-is) in
           let r =
           rest (spend call units) u m.end (state-after p true code ok of call s x state lent a insn here u e)
-          (lent-after p true code ok of call s x state lent a insn here (call.fuel - units) u e) m.agrees_then (omega (arith, enough, more)) in
+          (lent-after p true code ok of call s x state lent a insn here (call.fuel - units) u e) m.agrees_then less in
           let same : run_of code (suc r.0) s ≡ run_of code r.0 u =
           ap (λ (o : Option Insn). let q = step_at o s in ends_with q.0 q.1 (run_of code r.0 q.1)) here
           ∙ ap (λ (q : Step × State). ends_with q.0 q.1 (run_of code r.0 q.1)) e in
@@ -303,8 +308,10 @@ module _ (p : Places) (code : List Insn) (ok : IsCode code) (of : ArePlacesOf p 
             subst (λ (q : Outcome × State). Leaves p true code call 0 1 q.1 x) (sym same)
                 (leave-by p true code ok of call (call.fuel - units) 0 1 (run_of code r.0 u).1 x m.end m.reaches r.2),
           )
-      there insn here (moves.Returned, u) e enough more = absurd (omega (arith, enough, more))
-      there insn here (moves.Blocked index kind addr, u) e enough more = absurd (omega (arith, enough, more))
+      there insn here (moves.Returned, u) e enough more =
+          let more-is : call.fuel < cond at_head 1 0 + 0 = more in absurd (omega (arith, enough, more-is))
+      there insn here (moves.Blocked index kind addr, u) e enough more =
+          let more-is : call.fuel < cond at_head 1 0 + 0 = more in absurd (omega (arith, enough, more-is))
 
       by-head : (insn : Insn) → slice_get code s.index ≡ Some insn → call.fuel < arrivals code (suc n) s → Spending
       by-head insn here more =

@@ -60,15 +60,18 @@ dropped zero l k = let same : k ≡ 0 + k = omega arith in ap (slice_get l) same
 dropped (suc n) [] k = refl
 dropped (suc n) (x ∷ l) k = let same : suc (n + k) ≡ suc n + k = omega arith in dropped n l k ∙ ap (slice_get (x ∷ l)) same
 
+head-from : (code : List Insn) (head : ℕ) → is_loop_head code head ≡ true → IsLoopHead code head
+head-from code head e =
+    let f = found (drop head code) head head e in
+    record { from = head + f.place; back = omega arith; insn = f.insn; here = sym (dropped head code f.place) ∙ f.here; leads = f.leads }
+
+head-to : (code : List Insn) (head : ℕ) → IsLoopHead code head → is_loop_head code head ≡ true
+head-to code head h =
+    let b = h.back in
+    let same : h.from ≡ head + (h.from - head) = omega (arith, b) in
+    reaches (drop head code) head head (h.from - head) h.insn
+    (dropped head code (h.from - head) ∙ ap (slice_get code) (sym same) ∙ h.here)
+    (subst (λ k. jump_of k h.insn ≡ Some head) same h.leads)
+
 pub heads : (code : List Insn) (head : ℕ) → (is_loop_head code head ≡ true) ↔ IsLoopHead code head
-heads code head = (
-  λ e.
-      let f = found (drop head code) head head e in
-      record { from = head + f.place; back = omega arith; insn = f.insn; here = sym (dropped head code f.place) ∙ f.here; leads = f.leads },
-  λ h.
-      let b = h.back in
-      let same : h.from ≡ head + (h.from - head) = omega (arith, b) in
-      reaches (drop head code) head head (h.from - head) h.insn
-      (dropped head code (h.from - head) ∙ ap (slice_get code) (sym same) ∙ h.here)
-      (subst (λ k. jump_of k h.insn ≡ Some head) same h.leads),
-)
+heads code head = (head-from code head, head-to code head)

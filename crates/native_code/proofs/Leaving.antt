@@ -29,19 +29,19 @@ use Rattle.native_code.proofs.Reaching.{Reaches, reach-straight, reach-one, reac
 -- ---- which register is where
 
 -- an Alpha register below n is in that register of the processor, or none is
-abbrev Where : Places → ℕ → ℕ → Type 0
-Where p q n = ((r : ℕ) × (r < n) × (place_at p r ≡ Register q)) ⊎ ((r : ℕ) → r < n → place_at p r ≡ Register q → ⊥)
+abbrev Taker : Places → ℕ → ℕ → Type 0
+Taker p q n = ((r : ℕ) × (r < n) × (place_at p r ≡ Register q)) ⊎ ((r : ℕ) → r < n → place_at p r ≡ Register q → ⊥)
 
 is-there : (o : Place) (q : ℕ) → (o ≡ Register q) ⊎ (o ≡ Register q → ⊥)
 is-there (Register k) q = elim (cases_eq k q) [ inl e ↦ inl (ap Register e) | inr n ↦ inr (λ e. n (same-register k q e)) ]
 is-there Slot q = inr (λ e. absurd cc)
 is-there Nowhere q = inr (λ e. absurd cc)
 
-where-is : (p : Places) (q n : ℕ) → Where p q n
-where-is p q zero = inr (λ r h e. absurd (omega (arith, h)))
-where-is p q (suc n) = elim (is-there (place_at p n) q) [
+taker-of : (p : Places) (q n : ℕ) → Taker p q n
+taker-of p q zero = inr (λ r h e. absurd (omega (arith, h)))
+taker-of p q (suc n) = elim (is-there (place_at p n) q) [
   | inl here ↦ inl (n, omega arith, here)
-  | inr apart ↦ elim (where-is p q n) [
+  | inr apart ↦ elim (taker-of p q n) [
     | inl w ↦ let h = w.1 in inl (w.0, omega (arith, h), w.2)
     | inr none ↦ inr (λ r h e. elim (cases_eq r n) [
       | inl same ↦ apart (ap (place_at p) (sym same) ∙ e)
@@ -195,7 +195,7 @@ module _ (p : Places) (call : Call) (s : State) (places : ArePlaces p) (lent : I
         record { end = b.end; runs = both-run (restores n) (restore_place (place_at p n) n) x a.end b.end a.runs b.runs; restored = b.restored }
 
     -- whether an Alpha register took it or not
-    has-back : (q n : ℕ) (y : X86) → n ≡ 31 → Restored n y → is_callee_saved q ≡ true → Where p q n →
+    has-back : (q n : ℕ) (y : X86) → n ≡ 31 → Restored n y → is_callee_saved q ≡ true → Taker p q n →
         slice_index y.regs q ≡ slice_index call.registers q
     has-back q n y n-is h c (inl w) = h.back w.0 q w.1 w.2 c
     has-back q n y n-is h c (inr none) =
@@ -238,7 +238,7 @@ module _ (p : Places) (call : Call) (s : State) (places : ArePlaces p) (lent : I
           returns = record {
             word_is = other 0 (λ e. omega (arith, e)) ∙ h.rax ∙ rax;
             why_is = wrote-reads y (y.at + 6) y.flags RDX why h.machine (omega arith);
-            kept = λ q c. other q (λ e. isnt is_callee_saved q RDX c refl e) ∙ has-back q n y n-is h c (where-is p q n);
+            kept = λ q c. other q (λ e. isnt is_callee_saved q RDX c refl e) ∙ has-back q n y n-is h c (taker-of p q n);
             memory = λ b free. ap (λ m. read m b) h.memory ∙ agrees.memory b free;
           };
         }

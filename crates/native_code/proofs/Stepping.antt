@@ -209,9 +209,10 @@ module _ (p : Places) (metered : Bool) (code : List Insn) (ok : IsCode code) (of
       record { end = x; reaches = reach-none text x; at = same; agrees = agrees-fuel p call (call.fuel - 0) s x a (a.fuel ∙ none) }
   charged true call s x a near lies enough =
       let f = a.fuel in
-      let some : slice_index x.regs FUEL ≢ 0 = λ e. omega (arith, e, f, enough) in
+      let one : 1 ≤ call.fuel = enough in
+      let some : slice_index x.regs FUEL ≢ 0 = λ e. omega (arith, e, f, one) in
       let less : lessened call s x a ≡ call.fuel - 1 =
-      (says call s x a).word (omega (arith, f, enough)) ∙ ap (λ n. n - 1) f in
+      (says call s x a).word (omega (arith, f, one)) ∙ ap (λ n. n - 1) f in
       record {
         end = decided call s x a false;
         reaches = reach-decided call s x a false near lies (ne_eqb (slice_index x.regs FUEL) 0 some);
