@@ -15,7 +15,7 @@ use Rattle.native_steps.specs.Places.{Places}
 use Rattle.native_steps.specs.Straight.{total_length}
 use Rattle.native_code.specs.declared.insn.NativeInsn.{NativeInsn}
 use Rattle.native_code.specs.declared.insn.NativeInsn.TheVariants.{Plain, Go, GoIf}
-use Rattle.native_code.specs.Blocks.{plain, block_at, front_code, native_code}
+use Rattle.native_code.specs.Blocks.{plain, block_at, front_code, whole_code}
 use Rattle.native_code.specs.Layout.{native_length, code_length, placed, placed_from, offset_of, native_text}
 
 -- ---- lengths
@@ -156,7 +156,7 @@ module _ (p : Places) (metered : Bool) (code : List Insn) where
       let insns : List NativeInsn → List X86Insn = placed_from offset 0 in
       let zero_up : 0 + offset k ≡ offset k = omega arith in
       let behind : List X86Insn = placed_from offset (offset k + code_length (block k)) w.rest in
-      let split : insns (native_code p metered code) ≡ insns (front k) ++ (placed_from offset (offset k) (block k) ++ behind) =
+      let split : insns (whole_code p metered code) ≡ insns (front k) ++ (placed_from offset (offset k) (block k) ++ behind) =
       ap insns w.whole ∙ placed-append offset 0 (front k) (block k ++ w.rest)
       ∙ ap (λ n. insns (front k) ++ placed_from offset n (block k ++ w.rest)) zero_up
       ∙ ap (λ l. insns (front k) ++ l) (placed-append offset (offset k) (block k) w.rest) in
@@ -169,11 +169,11 @@ module _ (p : Places) (metered : Bool) (code : List Insn) where
       lies-front (native_text p metered code) (offset k) (placed_from offset (offset k) (block k)) behind rest
 
   -- the entry stands at the beginning
-  pub entry-lies : (rest : List NativeInsn) (entry : List X86Insn) → native_code p metered code ≡ plain entry ++ rest →
+  pub entry-lies : (rest : List NativeInsn) (entry : List X86Insn) → whole_code p metered code ≡ plain entry ++ rest →
       Lies (native_text p metered code) 0 entry
   entry-lies rest entry e =
       let behind : List X86Insn = placed_from offset (0 + code_length (plain entry)) rest in
-      let split : placed_from offset 0 (native_code p metered code) ≡ entry ++ behind =
+      let split : placed_from offset 0 (whole_code p metered code) ≡ entry ++ behind =
       ap (placed_from offset 0) e ∙ placed-append offset 0 (plain entry) rest ∙ ap (λ l. l ++ behind) (placed-plain offset 0 entry) in
       lies-front (native_text p metered code) 0 entry behind
       (record { before = []; after = []; place = refl; whole = ap all_bytes split ∙ sym (append-nil _) })

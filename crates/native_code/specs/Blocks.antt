@@ -113,5 +113,5 @@ module _ (p : Places) where
     front_code (suc k) = front_code k ++ block_at k (slice_get code k)
 
     -- All of it: the block of index `length code` ends the runs that are out of fuel.
-    abbrev pub native_code : List NativeInsn
-    native_code = front_code (suc (length code))
+    abbrev pub whole_code : List NativeInsn
+    whole_code = front_code (suc (length code))

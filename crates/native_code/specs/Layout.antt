@@ -8,7 +8,7 @@ use Rattle.x86_words.specs.Encoding.{bytes_of, length_of}
 use Rattle.native_steps.specs.Places.{Places}
 use Rattle.native_code.specs.declared.insn.NativeInsn.{NativeInsn}
 use Rattle.native_code.specs.declared.insn.NativeInsn.TheVariants.{Plain, Go, GoIf}
-use Rattle.native_code.specs.Blocks.{front_code, native_code}
+use Rattle.native_code.specs.Blocks.{front_code, whole_code}
 
 -- the bytes that an instruction takes, wherever it leads
 abbrev pub native_length : NativeInsn → ℕ
@@ -45,7 +45,7 @@ module _ (p : Places) (metered : Bool) (code : List Insn) where
 
   -- The instructions of native code, with their displacements.
   abbrev pub native_insns : List X86Insn
-  native_insns = placed_from offset_of 0 (native_code p metered code)
+  native_insns = placed_from offset_of 0 (whole_code p metered code)
 
   -- The text: the bytes of native code.
   abbrev pub native_text : List ℕ
