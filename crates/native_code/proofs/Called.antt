@@ -13,7 +13,7 @@ use Rattle.x86_machine.specs.declared.outcome.X86Outcome.TheVariants as outcomes
 use Rattle.x86_machine.specs.Machine.{X86, IsX86, x86_run}
 use Rattle.native_steps.specs.declared.places.Place.{Place}
 use Rattle.native_steps.specs.declared.places.Place.TheVariants.{Register, Slot, Nowhere}
-use Rattle.native_steps.specs.Places.{Places, ArePlaces, place_at, slot, is_callee_saved, RAX, RCX, FUEL, AREA}
+use Rattle.native_steps.specs.Places.{Places, ArePlaces, place_at, slot, is_free, is_callee_saved, RAX, RCX, FUEL, AREA}
 use Rattle.native_steps.specs.Sequences.{keep_place}
 use Rattle.native_steps.specs.Straight.{IsStraight}
 use Rattle.native_steps.specs.Agreement.{Call, IsLent, Agrees}
@@ -149,10 +149,10 @@ module _ (p : Places) (call : Call) (s : State) (places : ArePlaces p) (lent : I
   abbrev None-yet : ℕ → Type 0
   None-yet r = ⊥
 
-  record EntersBy (x : X86) : Type 0 where
-    end : X86
-    runs : Runs (entry_code p) x end
-    agrees : Agrees p call s end
+  pub record EntersBy (x : X86) : Type 0 where
+    pub end : X86
+    pub runs : Runs (entry_code p) x end
+    pub agrees : Agrees p call s end
 
   module _ (x : X86) (state : IsState s) (h : IsCall call s x) where
     abbrev x1 : X86

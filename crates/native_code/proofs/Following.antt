@@ -40,9 +40,12 @@ sum-is : (m h : Bool) (a : ℕ) → cond m (cond h 1 0 + a) 0 ≡ cond (m && h) 
 sum-is true h a = refl
 sum-is false h a = omega arith
 
-nothing : (m : Bool) → cond m 0 0 ≡ 0
+nothing : (m : Bool) → ◌≡◌ {A = ℕ} (cond m 0 0) 0
 nothing true = refl
 nothing false = refl
+
+no-unit : (b : Bool) → b ≡ false → ◌≡◌ {A = ℕ} (cond b 1 0) 0
+no-unit b e = ap (λ c. cond c 1 0) e
 
 unit-most : (b : Bool) → cond b 1 0 ≤ 1
 unit-most true = omega arith
@@ -186,7 +189,7 @@ module _ (p : Places) (metered : Bool) (code : List Insn) (ok : IsCode code) (of
 
   follow-none : FollowsAll zero
   follow-none = λ call s x state lent a enough.
-      let none : cond metered 0 0 ≡ 0 = nothing metered in
+      let none = nothing metered in
       let same : call.fuel ≡ call.fuel - cond metered 0 0 = omega (arith, none) in
       come-by (spend call (cond metered 0 0)) s x x (reach-none text x)
       (record { at = a.at; agrees = agrees-fuel p call (call.fuel - cond metered 0 0) s x a.agrees (a.agrees.fuel ∙ same) })
@@ -321,23 +324,22 @@ module _ (p : Places) (code : List Insn) (ok : IsCode code) (of : ArePlacesOf p 
           subst (λ k. call.fuel < k) as-insn more in
           elim (cases_eq call.fuel 0) [
             | inl none ↦ elim (cases_Bool at_head) [
-              | inl head ↦ missing insn here head none
-              | inr other ↦ let no-unit : cond at_head 1 0 ≡ 0 = ap (λ b. cond b 1 0) other in
-                  there insn here (insn_outcome insn s) refl (omega (arith, no-unit)) most
+              | inl is ↦ missing insn here is none
+              | inr other ↦ let u = no-unit at_head other in there insn here (insn_outcome insn s) refl (omega (arith, u)) most
             ]
             | inr some ↦ there insn here (insn_outcome insn s) refl (let u = unit-most at_head in omega (arith, u, some)) most
           ]
 
       outside : slice_get code s.index ≡ None → call.fuel < arrivals code (suc n) s → Spending
       outside none more = elim (cases_Bool at_head) [
-        | inl head ↦
-            let low : s.index < length code = head-inside code s.index head in
+        | inl is ↦
+            let low : s.index < length code = head-inside code s.index is in
             absurd (missing-insn code s.index low none)
         | inr other ↦
             let as-none : arrivals code (suc n) s ≡ cond at_head 1 0 + 0 =
             ap (λ (o : Option Insn). let q = step_at o s in cond at_head 1 0 + if_moved q.0 (arrivals code n q.1)) none in
-            let no-unit : cond at_head 1 0 ≡ 0 = ap (λ b. cond b 1 0) other in
-            absurd (omega (arith, more, as-none, no-unit))
+            let u = no-unit at_head other in
+            absurd (omega (arith, more, as-none, u))
       ]
 
       by-option : (o : Option Insn) → slice_get code s.index ≡ o → call.fuel < arrivals code (suc n) s → Spending

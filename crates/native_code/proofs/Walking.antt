@@ -1,7 +1,7 @@
 -- Runs of the text over instructions that go straight on, and over a jump.
 use Rattle.std.proofs.Common.{◌≡◌, ℕ, suc, ◌+◌, Bool, true, false, cond, List, [], ◌∷◌, length, slice_index, Option, Some, None, ℤ}
 use Rattle.std.proofs.Common.{pos, ◌+ℤ◌, ◌-ℤ◌, All, refl, sym, ap, ◌∙◌, subst, arith}
-use Rattle.std.proofs.Math.IntN.{-ℤ-+ℤ_cancel, +ℤ_comm}
+use Rattle.std.proofs.Math.IntN.{+ℤ_comm, -ℤ-+ℤ_cancel}
 use Rattle.std.proofs.lemmas.List.Elements.{All-head, All-tail}
 use Rattle.word_ops.specs.Memory.{read, write}
 use Rattle.word_ops.specs.Rights.{allowed}
