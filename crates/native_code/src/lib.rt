@@ -5,7 +5,8 @@
 //! - `Heads`: loop heads, and how often a run arrives at one;
 //! - `Blocks`: the entry, the blocks and the end;
 //! - `Layout`: where they begin, how far jumps lead, and the bytes;
-//! - `Calls`: calls, and what is proved of them.
+//! - `Calls`: calls, and how they follow Alpha runs;
+//! - `Ends`: how calls end.
 //!
 //! Sources: System V Application Binary Interface, AMD64 Architecture Processor Supplement; Intel 64
 //! and IA-32 Architectures Software Developer's Manual, volume 2.
