@@ -21,10 +21,10 @@ use Rattle.x86_machine.specs.Machine.{X86, x86_step, x86_ends_with, x86_run}
 use Rattle.native_steps.specs.Places.{Places}
 use Rattle.native_steps.specs.Agreement.{Call, IsLent}
 use Rattle.native_code.specs.declared.insn.NativeInsn.{NativeInsn}
-use Rattle.native_code.specs.Heads.{is_loop_head, if_moved, arrivals}
+use Rattle.native_code.specs.Heads.{is_loop_head, if_moved, arrivals, fuel_of}
 use Rattle.native_code.specs.Blocks.{plain, entry_code, spent_code, front_code, block_at, whole_code, RDX}
 use Rattle.native_code.specs.Layout.{native_length, placed_from, offset_of, native_insns, native_text}
-use Rattle.native_code.specs.Calls.{ArePlacesOf, spend, IsCallEnd, AgreesAt, fuel_of}
+use Rattle.native_code.specs.Calls.{ArePlacesOf, spend, IsCallEnd, AgreesAt}
 use Rattle.native_code.specs.Ends.{IsAllowedRun, IsSafeCall, ReturnsAs, RunsOut, IsSafeEnd, SafeCalls, LeavesWithin, EndingCalls, ReturningCalls}
 use Rattle.native_code.proofs.Texts.{block}
 use Rattle.native_code.proofs.Heading.{heads}
@@ -276,9 +276,9 @@ module _ (p : Places) (metered : Bool) (code : List Insn) where
   before-next k = length-append (front_code p metered code k) (block p metered code k)
 
   before-later : (n k : ℕ) → k ≤ n → before k ≤ before n
-  before-later zero k h = let same : before k ≡ before 0 = ap before (omega (arith, h)) in omega (arith, same)
+  before-later zero k h = let none : k ≡ 0 = omega (arith, h) in let same : before k ≡ before 0 = ap before none in omega (arith, same)
   before-later (suc n) k h = elim (cases_lt n k) [
-    | inl above ↦ let same : before k ≡ before (suc n) = ap before (omega (arith, h, above)) in omega (arith, same)
+    | inl above ↦ let one : k ≡ suc n = omega (arith, h, above) in let same : before k ≡ before (suc n) = ap before one in omega (arith, same)
     | inr below ↦ let rest = before-later n k below in let next = before-next n in omega (arith, rest, next)
   ]
 
@@ -403,7 +403,7 @@ module _ (p : Places) (code : List Insn) (ok : IsCode code) (of : ArePlacesOf p 
       rest-leaves : (u : State) (y : X86) (k n : ℕ) → unit ≤ call.fuel → k ≤ here_size → k + n ≡ m → insn_outcome insn s ≡ (moves.Moved, u) →
           (u.index ≡ suc s.index) ⊎ (jump_of s.index insn ≡ Some u.index) → AgreesAt p true code (spend call unit) u y →
           LeavesWithin metered_text n y
-      rest-leaves u y k n enough small sum e next then =
+      rest-leaves u y k n enough small sum e next after =
           let left = rounds-left enough in
           let gap = block-room in
           let state-then = state-after p true code ok of call s x state lent agrees insn here u e in
@@ -415,7 +415,7 @@ module _ (p : Places) (code : List Insn) (ok : IsCode code) (of : ArePlacesOf p 
                 let one : suc b ≡ a = omega (arith, left) in
                 let none : ◌≡◌ {A = ℕ} (cond (is_loop_head code u.index) 0 1) 0 = ap (λ v. cond v 0 1) is in
                 let split : a * whole ≡ b * whole + whole = ap (λ v. v * whole) (sym one) ∙ suc-times b whole in
-                less b one (length code) (spend call unit) u y n state-then lent-then then allowed-then (omega (arith, left, none, one)) (omega arith)
+                less b one (length code) (spend call unit) u y n state-then lent-then after allowed-then (omega (arith, left, none, one)) (omega arith)
                 (omega (arith, room, gap, small, sum, split))
             | inr other ↦
                 let on = further u.index next other in
@@ -424,20 +424,20 @@ module _ (p : Places) (code : List Insn) (ok : IsCode code) (of : ArePlacesOf p 
                 let back : suc (d - 1) ≡ d = omega (arith, far, on, low) in
                 let later = before-later p true code u.index (suc s.index) (omega (arith, on)) in
                 let next-start = before-next p true code s.index in
-                near_by (d - 1) back (spend call unit) u y n state-then lent-then then allowed-then (omega (arith, left, one)) (omega (arith, far, on))
+                near_by (d - 1) back (spend call unit) u y n state-then lent-then after allowed-then (omega (arith, left, one)) (omega (arith, far, on))
                 (omega (arith, room, small, sum, later, next-start))
           ]
 
       leave-by : (q : Step × State) → insn_outcome insn s ≡ q → unit ≤ call.fuel → LeavesWithin metered_text m x
       leave-by (moves.Moved, u) e enough =
           let r = steps-on p true code ok of call s x state lent agrees insn here u enough e in
-          let small = r.few in
+          let small : r.count ≤ here_size = r.few in
           let enough-steps = fits in
           leave-later metered_text x r.end (m - r.count) m r.reaches (omega (arith, small, enough-steps))
           (rest-leaves u r.end r.count (m - r.count) enough small (omega (arith, small, enough-steps)) e r.next r.agrees_then)
       leave-by (moves.Returned, u) e enough =
           let r = ends-so p true code ok of call s x state lent agrees insn here u enough e in
-          let small = r.few in
+          let small : r.most ≤ here_size = r.few in
           let enough-steps = fits in
           leaves-less p true code ok of call (slice_index u.regs 0) 0 r.most m u x (omega (arith, small, enough-steps)) r.leaves
       leave-by (moves.Blocked index kind addr, u) e enough = absurd (unblocked code s insn here index kind addr u e allowed)
@@ -447,7 +447,7 @@ module _ (p : Places) (code : List Insn) (ok : IsCode code) (of : ArePlacesOf p 
         | inl dry ↦ elim (cases_Bool head) [
           | inl is ↦
               let one = one-unit head is in
-              let two = wanted-size p true code ok of call s x state lent agrees insn here is in
+              let two : 2 ≤ here_size = wanted-size p true code ok of call s x state lent agrees insn here is in
               let enough-steps = fits in
               leaves-less p true code ok of call 0 1 (2 + length (spent_code p)) m s x (omega (arith, two, enough-steps))
               (missing p true code ok of call s x state lent agrees insn here is (omega (arith, dry, one)))
@@ -511,7 +511,8 @@ ends-in-time = λ p code call s x h.
     let l =
     leave-all p code h.is_code h.places a (length code) call s e.end m h.state h.lent e.agrees h.allowed (omega (arith, most)) (omega arith)
     (omega (arith, at_start, low, sum)) in
-    let split : (call.fuel + 2) * w ≡ a * w + w = ap (λ k. k * w) (omega arith) ∙ suc-times a w in
+    let two : call.fuel + 2 ≡ suc a = omega arith in
+    let split : (call.fuel + 2) * w ≡ a * w + w = ap (λ k. k * w) two ∙ suc-times a w in
     let leaves =
     leave-later (native_text p true code) x e.end m ((call.fuel + 2) * w) e.reaches (omega (arith, entry, low, sum, split)) l in
     record {

@@ -22,11 +22,11 @@ use Rattle.native_steps.specs.Straight.{total_length}
 use Rattle.native_steps.specs.Agreement.{Call, IsLent, Agrees}
 use Rattle.native_steps.proofs.Frames.{wrote, wrote-same, wrote-reads, agrees-same}
 use Rattle.native_steps.proofs.Encodable.{straight}
-use Rattle.native_code.specs.Heads.{IsLoopHead, is_loop_head, if_moved, arrivals}
+use Rattle.native_code.specs.Heads.{IsLoopHead, is_loop_head, if_moved, arrivals, fuel_of}
 use Rattle.native_code.specs.declared.insn.NativeInsn.{NativeInsn}
 use Rattle.native_code.specs.Blocks.{fuel_code, end_code, block_at, exit_code, spent_code}
 use Rattle.native_code.specs.Layout.{code_length, placed_from, offset_of, native_text}
-use Rattle.native_code.specs.Calls.{ArePlacesOf, spend, IsCallEnd, AgreesAt, fuel_of, Comes, Leaves, Follows, SimulatesRuns, Spends}
+use Rattle.native_code.specs.Calls.{ArePlacesOf, spend, IsCallEnd, AgreesAt, Comes, Leaves, Follows, SimulatesRuns, Spends}
 use Rattle.native_code.proofs.Texts.{Lies, lies-as, lies-back, placed-plain, block-lies, block}
 use Rattle.native_code.proofs.Reaching.{Reaches, reach-none, reach-both, reach-one, reached}
 use Rattle.native_code.proofs.Leaving.{leaves}
@@ -304,8 +304,8 @@ module _ (p : Places) (metered : Bool) (code : List Insn) (ok : IsCode code) (of
   -- every run of at most n steps is followed
   abbrev FollowsAll : ℕ → Type 0
   FollowsAll n =
-      (call : Call) (s : State) (x : X86) → IsState s → IsLent call s.rights → AgreesAt p metered code call s x → fuel_of p metered code n s ≤ call.fuel →
-      Follows p metered code call (fuel_of p metered code n s) (run_of code n s) x
+      (call : Call) (s : State) (x : X86) → IsState s → IsLent call s.rights → AgreesAt p metered code call s x → fuel_of metered code n s ≤ call.fuel →
+      Follows p metered code call (fuel_of metered code n s) (run_of code n s) x
 
   follow-none : FollowsAll zero
   follow-none = λ call s x state lent a enough.
@@ -325,7 +325,7 @@ module _ (p : Places) (metered : Bool) (code : List Insn) (ok : IsCode code) (of
           let most-is : cond metered (cond (is_loop_head code s.index) 1 0 + arrivals code n u) 0 ≤ call.fuel = most in
           let left : cond metered (arrivals code n u) 0 ≤ call.fuel - units = omega (arith, sum, most-is) in
           let m = steps-on call s x state lent a insn here u (omega (arith, sum, most-is)) e in
-          onward call units (fuel_of p metered code n u) (total n s (moves.Moved, u)) (run_of code n u) x m.end sum m.reaches
+          onward call units (fuel_of metered code n u) (total n s (moves.Moved, u)) (run_of code n u) x m.end sum m.reaches
           (rest (spend call units) u m.end (state-after call s x state lent a insn here u e)
           (lent-after call s x state lent a insn here (call.fuel - units) u e) m.agrees_then left)
       by-step insn here (moves.Returned, u) e most =

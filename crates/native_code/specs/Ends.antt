@@ -10,10 +10,10 @@ use Rattle.x86_machine.specs.declared.outcome.X86Outcome.TheVariants as outcomes
 use Rattle.x86_machine.specs.Machine.{X86, x86_run}
 use Rattle.native_steps.specs.Places.{Places}
 use Rattle.native_steps.specs.Agreement.{Call, IsLent}
-use Rattle.native_code.specs.Heads.{arrivals}
+use Rattle.native_code.specs.Heads.{arrivals, fuel_of}
 use Rattle.native_code.specs.Blocks.{RDX}
 use Rattle.native_code.specs.Layout.{native_insns, native_text}
-use Rattle.native_code.specs.Calls.{ArePlacesOf, IsCall, IsCallEnd, fuel_of}
+use Rattle.native_code.specs.Calls.{ArePlacesOf, IsCall, IsCallEnd}
 
 -- the outcome of a run in which no access was blocked
 abbrev pub IsAllowedRun : Outcome → Type 0
