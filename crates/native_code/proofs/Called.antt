@@ -1,16 +1,13 @@
 -- A call comes to the first block, in agreement.
 use Rattle.std.proofs.Common.{◌≡◌, ◌≢◌, ◌⊎◌, ℕ, zero, suc, ◌+◌, ◌^◌, ◌<◌, ◌≤◌, Bool, true, false, cond, List, [], ◌∷◌, ◌++◌, length, slice_get, slice_index}
-use Rattle.std.proofs.Common.{Some, All, refl, sym, ap, ◌∙◌, subst, arith, inl, inr}
+use Rattle.std.proofs.Common.{refl, sym, ap, ◌∙◌, subst, arith, inl, inr}
 use Rattle.std.proofs.lemmas.Bool.{cases_eq, ne_eqb}
 use Rattle.std.proofs.lemmas.List.{append_assoc, append-nil}
-use Rattle.word_ops.specs.Memory.{read}
 use Rattle.alpha_words.specs.declared.insn.Insn.{Insn}
 use Rattle.alpha_cfg.specs.Machine.{State, IsState}
 use Rattle.x86_words.specs.declared.insn.X86Insn.{X86Insn}
 use Rattle.x86_words.specs.declared.insn.X86Insn.TheVariants.{Mov, MovZero, Store}
-use Rattle.x86_machine.specs.declared.outcome.X86Step.TheVariants as steps
-use Rattle.x86_machine.specs.declared.outcome.X86Outcome.TheVariants as outcomes
-use Rattle.x86_machine.specs.Machine.{X86, IsX86, x86_run}
+use Rattle.x86_machine.specs.Machine.{X86, IsX86}
 use Rattle.native_steps.specs.declared.places.Place.{Place}
 use Rattle.native_steps.specs.declared.places.Place.TheVariants.{Register, Slot, Nowhere}
 use Rattle.native_steps.specs.Places.{Places, ArePlaces, place_at, slot, is_free, is_callee_saved, RAX, RCX, FUEL, AREA}

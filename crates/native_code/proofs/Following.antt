@@ -1,5 +1,5 @@
 -- Native code follows every Alpha run for which the fuel is enough, and ends where it isn't.
-use Rattle.std.proofs.Common.{◌≡◌, ◌≢◌, ℕ, zero, suc, ◌+◌, ◌-◌, ◌^◌, ◌<◌, ◌≤◌, Bool, true, false, cond, ◌&&◌, List, [], ◌∷◌, length, slice_get, slice_index}
+use Rattle.std.proofs.Common.{◌≡◌, ℕ, zero, suc, ◌+◌, ◌-◌, ◌<◌, ◌≤◌, Bool, true, false, cond, ◌&&◌, List, [], ◌∷◌, length, slice_get, slice_index}
 use Rattle.std.proofs.Common.{Option, Some, None, refl, sym, ap, ◌∙◌, subst, arith, inl, inr}
 use Rattle.std.proofs.lemmas.Bool.{cases_eq, cases_Bool}
 use Rattle.std.proofs.lemmas.Option.{slice_get_within, slice_get_past}
@@ -12,11 +12,9 @@ use Rattle.alpha_cfg.specs.declared.outcome.Outcome.TheVariants as ends
 use Rattle.alpha_cfg.specs.Flow.{IsCode}
 use Rattle.alpha_cfg.specs.Machine.{State, IsState, insn_outcome, step_at, ends_with, run_of}
 use Rattle.alpha_cfg.proofs.States.{IsAt, insn_outcome-keeps, insn_outcome-rights}
-use Rattle.x86_words.specs.declared.insn.X86Insn.{X86Insn}
 use Rattle.x86_words.specs.declared.insn.X86Insn.TheVariants.{MovZero}
-use Rattle.x86_machine.specs.declared.outcome.X86Outcome.TheVariants as outcomes
-use Rattle.x86_machine.specs.Machine.{X86, x86_run}
-use Rattle.native_steps.specs.Places.{Places, ArePlaces, FUEL, RAX}
+use Rattle.x86_machine.specs.Machine.{X86}
+use Rattle.native_steps.specs.Places.{Places, RAX}
 use Rattle.native_steps.specs.Straight.{total_length}
 use Rattle.native_steps.specs.Agreement.{Call, IsLent, Agrees}
 use Rattle.native_steps.proofs.Frames.{wrote, wrote-same, wrote-reads, agrees-same}

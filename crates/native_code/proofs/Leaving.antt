@@ -1,10 +1,10 @@
 -- The end of a call: what the caller wants back comes back, and `ret` leaves.
-use Rattle.std.proofs.Common.{◌≡◌, ◌≢◌, ◌⊎◌, ℕ, zero, suc, ◌+◌, ◌%◌, ◌^◌, ◌<◌, ◌≤◌, Bool, true, false, cond, List, [], ◌∷◌, ◌++◌, length, slice_index}
-use Rattle.std.proofs.Common.{Some, All, refl, sym, ap, ◌∙◌, subst, arith, inl, inr}
-use Rattle.std.proofs.lemmas.Bool.{cases_eq, cases_lt}
+use Rattle.std.proofs.Common.{◌≡◌, ◌≢◌, ◌⊎◌, ℕ, zero, suc, ◌+◌, ◌%◌, ◌^◌, ◌<◌, ◌≤◌, Bool, true, false, cond, List, [], ◌∷◌, length, slice_index}
+use Rattle.std.proofs.Common.{refl, sym, ap, ◌∙◌, subst, arith, inl, inr}
+use Rattle.std.proofs.lemmas.Bool.{cases_eq}
 use Rattle.word_ops.specs.Memory.{read}
 use Rattle.word_ops.proofs.Memories.{read-below}
-use Rattle.word_ops.specs.Rights.{Rights, in_span, allowed}
+use Rattle.word_ops.specs.Rights.{Rights, allowed}
 use Rattle.alpha_cfg.specs.Machine.{State}
 use Rattle.x86_words.specs.declared.insn.X86Insn.{X86Insn}
 use Rattle.x86_words.specs.declared.insn.X86Insn.TheVariants.{MovZero, Load, Ret}
@@ -17,7 +17,7 @@ use Rattle.native_steps.specs.Places.{Places, ArePlaces, is_somewhere, place_at,
 use Rattle.native_steps.specs.Straight.{IsStraight, total_length}
 use Rattle.native_steps.specs.Agreement.{Call, area_span, IsLent, Agrees}
 use Rattle.native_steps.proofs.Straights.{Runs, none-run, then-run, both-run}
-use Rattle.native_steps.proofs.Frames.{wrote, wrote-is, wrote-reads, wrote-other, isnt, free-below, free-above}
+use Rattle.native_steps.proofs.Frames.{wrote, wrote-is, wrote-reads, wrote-other, isnt, free-below}
 use Rattle.native_steps.proofs.Operands.{slot-is, slot-allowed, placed-below, same-register}
 use Rattle.native_steps.proofs.Encodable.{Straight, no-insn, one-straight, both-straight, straight, slot-fits}
 use Rattle.native_code.specs.Blocks.{for_registers, restore_place, exit_code, RDX}

@@ -1,6 +1,6 @@
 -- One Alpha step: fuel, the block's sequence, and where it goes on.
-use Rattle.std.proofs.Common.{◌≡◌, ◌≢◌, ℕ, zero, suc, ◌+◌, ◌-◌, ◌^◌, ◌<◌, ◌≤◌, Bool, true, false, cond, List, [], ◌∷◌, ◌++◌, length, slice_get}
-use Rattle.std.proofs.Common.{FitsSigned, slice_index, Option, Some, None, ℤ, pos, negsuc, ◌+ℤ◌, refl, sym, ap, ◌∙◌, subst, arith, inl, inr}
+use Rattle.std.proofs.Common.{◌≡◌, ◌≢◌, ℕ, suc, ◌+◌, ◌-◌, ◌^◌, ◌<◌, ◌≤◌, Bool, true, false, cond, List, [], ◌∷◌, ◌++◌, length, slice_get}
+use Rattle.std.proofs.Common.{FitsSigned, slice_index, Option, Some, ℤ, pos, negsuc, ◌+ℤ◌, refl, sym, ap, ◌∙◌, subst, arith}
 use Rattle.std.specs.Int.{w32}
 use Rattle.std.proofs.lemmas.Bool.{ne_eqb, eq-eqb}
 use Rattle.std.proofs.lemmas.Option.{slice_get_within}
@@ -33,24 +33,22 @@ use Rattle.x86_words.specs.declared.insn.X86Insn.{X86Insn}
 use Rattle.x86_words.specs.declared.insn.X86Insn.TheVariants.{AluImm, JumpIf, Jump}
 use Rattle.x86_words.specs.Encoding.{length_of, IsX86Insn}
 use Rattle.x86_machine.specs.declared.flags.Flags.{Flags}
-use Rattle.x86_machine.specs.declared.outcome.X86Step.TheVariants as steps
-use Rattle.x86_machine.specs.Flags.{alu_word, alu_flags, cond_holds, AfterSubOne}
+use Rattle.x86_machine.specs.Flags.{alu_word, alu_flags, AfterSubOne}
 use Rattle.x86_machine.specs.declared.outcome.X86Outcome.TheVariants as outcomes
-use Rattle.x86_machine.specs.Machine.{X86, IsX86, x86_run}
+use Rattle.x86_machine.specs.Machine.{X86, x86_run}
 use Rattle.x86_machine.proofs.Orders.{after_sub_one}
-use Rattle.native_steps.specs.Places.{Places, ArePlaces, IsSomewhere, place_at, is_free, is_callee_saved, AREA, FUEL, RAX}
+use Rattle.native_steps.specs.Places.{Places, ArePlaces, IsSomewhere, is_free, is_callee_saved, AREA, FUEL, RAX}
 use Rattle.native_steps.specs.Sequences.{ReadsPlaced, test_code, action_code, insn_code, branch_cond, fetch}
 use Rattle.native_steps.specs.Straight.{total_length, x86_straight}
 use Rattle.native_steps.specs.Agreement.{Call, IsLent, Agrees, EndsInAgreement, DecidesBranch}
-use Rattle.native_steps.proofs.Frames.{wrote, SameBut, wrote-is, wrote-reads, wrote-other, flags-same, agrees-same, isnt}
+use Rattle.native_steps.proofs.Frames.{wrote, wrote-is, wrote-reads, wrote-other, flags-same, agrees-same, isnt}
 use Rattle.native_steps.proofs.Operands.{agrees-index, fetched, with_reg, with-agrees, with-reads}
 use Rattle.native_steps.proofs.Instructions.{simulates, tests}
 use Rattle.native_steps.proofs.Encodable.{fetch-straight, sequence-straight}
 use Rattle.native_code.specs.declared.insn.NativeInsn.{NativeInsn}
 use Rattle.native_code.specs.declared.insn.NativeInsn.TheVariants.{Plain, Go, GoIf}
-use Rattle.native_code.specs.Heads.{is_loop_head}
-use Rattle.native_code.specs.Blocks.{plain, branch_code, end_code, fuel_code, block_of, block_at, exit_code, return_code}
-use Rattle.native_code.specs.Layout.{native_length, code_length, distance, placed_from, offset_of, native_text}
+use Rattle.native_code.specs.Blocks.{plain, branch_code, end_code, fuel_code, block_at, exit_code, return_code}
+use Rattle.native_code.specs.Layout.{code_length, distance, placed_from, offset_of, native_text}
 use Rattle.native_code.specs.Calls.{ArePlacesOf, spend, IsCallEnd, AgreesAt}
 use Rattle.native_code.proofs.Texts.{plain-length, length-append-code, placed-append, placed-plain, placed-length, Lies, lies-as, lies-front, lies-back}
 use Rattle.native_code.proofs.Texts.{offset-next, block-lies, block}
