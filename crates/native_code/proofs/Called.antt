@@ -102,8 +102,7 @@ module _ (p : Places) (call : Call) (s : State) (places : ArePlaces p) (lent : I
     )
     one-cleared n false y low e h rax =
         let fresh : Cleared n n → ⊥ = λ d. elim d [ inl a ↦ absurd (omega (arith, a)) | inr a ↦ let wrong : true ≡ false = sym a ∙ e in absurd cc ] in
-        let m = entered p call s places lent n RAX (Cleared n) y low fresh (rax ∙ sym (others n e)) h in
-        (
+        let m = entered p call s places lent n RAX (Cleared n) y low fresh (rax ∙ sym (others n e)) h in (
           m.end,
           m.runs,
           partly-as p call s places lent (With n (Cleared n)) (Cleared (suc n)) m.end

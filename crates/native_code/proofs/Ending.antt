@@ -210,9 +210,9 @@ module _ (p : Places) (metered : Bool) (code : List Insn) (ok : IsCode code) (of
           let some = r.some in
           from-reached m text x r.end (IsSafeEnd metered code call s) r.reaches (λ z. tt)
           (λ k sum. later u e enough (x86_run text k r.end)
-              (rest k (omega (arith, sum, some, low)) (spend call units) u r.end (state-after p metered code ok of call s x state lent a insn here u e)
-                  (lent-after p metered code ok of call s x state lent a insn here (call.fuel - units) u e) r.agrees_then
-                  (allowed-after code s insn here u e allowed)))
+          (rest k (omega (arith, sum, some, low)) (spend call units) u r.end (state-after p metered code ok of call s x state lent a insn here u e)
+          (lent-after p metered code ok of call s x state lent a insn here (call.fuel - units) u e) r.agrees_then
+          (allowed-after code s insn here u e allowed)))
       safe-by (moves.Returned, u) e enough =
           let r = ends-so p metered code ok of call s x state lent a insn here u enough e in
           let l = r.leaves in
@@ -546,8 +546,8 @@ module _ (p : Places) (code : List Insn) (ok : IsCode code) (of : ArePlacesOf p 
           let brief = r.brief in
           leave-later plain_text x r.end (10 * n + 28) (10 * suc n + 28) r.reaches (omega (arith, brief))
           (rest (spend call 0) u t r.end word (state-after p false code ok of call s x state lent agrees insn here u e)
-              (lent-after p false code ok of call s x state lent agrees insn here (call.fuel - 0) u e) r.agrees_then
-              (sym (stepped code s insn here (moves.Moved, u) e n) ∙ run))
+          (lent-after p false code ok of call s x state lent agrees insn here (call.fuel - 0) u e) r.agrees_then
+          (sym (stepped code s insn here (moves.Moved, u) e n) ∙ run))
       return-by insn here (moves.Returned, u) e =
           let r = ends-so p false code ok of call s x state lent agrees insn here u (omega arith) e in
           let brief = r.brief in

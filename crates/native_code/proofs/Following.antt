@@ -380,8 +380,7 @@ module _ (p : Places) (code : List Insn) (ok : IsCode code) (of : ArePlacesOf p 
           let same : run_of code (suc r.0) s ≡ run_of code r.0 u =
           ap (λ (o : Option Insn). let q = step_at o s in ends_with q.0 q.1 (run_of code r.0 q.1)) here
           ∙ ap (λ (q : Step × State). ends_with q.0 q.1 (run_of code r.0 q.1)) e in
-          let k-low = r.1 in
-          (
+          let k-low = r.1 in (
             suc r.0,
             omega (arith, k-low),
             subst (λ (q : Outcome × State). Leaves p true code call 0 1 q.1 x) (sym same)

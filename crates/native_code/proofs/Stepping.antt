@@ -299,7 +299,7 @@ module _ (p : Places) (metered : Bool) (code : List Insn) (ok : IsCode code) (of
         ap (λ n. offset i + n) (placed-length offset (offset i) charging) in
         let parts : second ≡ insns ++ placed_from offset after ending =
         placed-append offset middle (plain insns) ending ∙ ap (λ l. l ++ placed_from offset (middle + code_length (plain insns)) ending)
-            (placed-plain offset middle insns)
+        (placed-plain offset middle insns)
         ∙ ap (λ n. insns ++ placed_from offset (middle + n) ending) (plain-length insns) in
         lies-as text middle second (insns ++ placed_from offset after ending) parts
         (subst (λ n. Lies text n second) count (lies-back text (offset i) (placed_from offset (offset i) charging) second split))

@@ -58,7 +58,7 @@ module _ (x : X86) (next : ℕ) where
   straight-leads (Load to base disp) on =
       let a = disp_address x base disp in
       if-leads (allowed x.rights.reads a) (puts x next to (read x.memory a)) (λ _. refl)
-  straight-leads (Store base disp from) on = 
+  straight-leads (Store base disp from) on =
       let a = disp_address x base disp in
       if-leads (allowed x.rights.writes a) (steps.Moved, record x { at = next; memory = write x.memory a (slice_index x.regs from) }) (λ _. refl)
   straight-leads (AluLoad op to base disp) on =

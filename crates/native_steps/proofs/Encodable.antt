@@ -1,5 +1,5 @@
 -- Each instruction of a sequence has bytes, and none jumps.
-use Rattle.std.proofs.Common.{◌≡◌, ℕ, ◌*◌, ◌<◌, true, List, [], ◌∷◌, ◌++◌, ℤ, pos, negsuc, All, FitsSigned, refl, sym, arith, inl, inr, subst, cond}
+use Rattle.std.proofs.Common.{◌≡◌, ℕ, ◌<◌, true, List, [], ◌∷◌, ◌++◌, ℤ, pos, negsuc, All, FitsSigned, refl, sym, arith, inl, inr, subst, cond}
 use Rattle.std.specs.Int.{w32}
 use Rattle.std.proofs.lemmas.Bool.{cases_eq, ne_eqb}
 use Rattle.std.proofs.lemmas.List.Elements.{All-nil, All-cons, All-append}
@@ -17,7 +17,6 @@ use Rattle.alpha_cfg.specs.Actions as actions
 use Rattle.alpha_cfg.specs.Flow.{IsInsn}
 use Rattle.alpha_cfg.proofs.States.{action_of-operands}
 use Rattle.x86_words.specs.declared.operators.AluOp.TheVariants as alu
-use Rattle.x86_words.specs.declared.operators.ShiftOp.{ShiftOp}
 use Rattle.x86_words.specs.declared.operators.ShiftOp.TheVariants.{Shl, Shr, Sar}
 use Rattle.x86_words.specs.declared.operators.X86Cond.{X86Cond}
 use Rattle.x86_words.specs.declared.operators.X86Cond.TheVariants.{Below, Equal, BelowOrEqual, Less, LessOrEqual}
