@@ -31,7 +31,8 @@ use Rattle.native_code.proofs.Heading.{heads}
 use Rattle.native_code.proofs.Reaching.{Reaches, reached}
 use Rattle.native_code.proofs.Fitting.{plain-count, entry-count}
 use Rattle.native_code.proofs.Called.{begins}
-use Rattle.native_code.proofs.Following.{sum-is, nothing, no-unit, return-spent, LeavesIn, takes, state-after, lent-after, steps-on, ends-so, wanted-size, missing, spends}
+use Rattle.native_code.proofs.Following.{sum-is, nothing, no-unit, return-spent, LeavesIn, takes, state-after, lent-after, steps-on, ends-so}
+use Rattle.native_code.proofs.Following.{wanted-size, missing, spends}
 
 -- ---- flags
 

@@ -377,7 +377,8 @@ module _ (p : Places) (metered : Bool) (code : List Insn) (ok : IsCode code) (of
         -- the sequence, and nothing more
         falls : ending ≡ [] → 1 ≤ length insns → EndsInAgreement p call insns x t → t.index ≡ suc i → Moves call t x
         falls none some e index =
-            let reaches : Reaches text (length insns) x e.end = reach-straight text insns x e.end lie-here (sequence-straight p insn places (ok.encoded i insn here)) e.runs in
+            let all = sequence-straight p insn places (ok.encoded i insn here) in
+            let reaches : Reaches text (length insns) x e.end = reach-straight text insns x e.end lie-here all e.runs in
             let a = e.at in
             let m = at_middle in
             let n = next-is in
