@@ -1,16 +1,13 @@
 -- A call comes to the first block, in agreement.
 use Rattle.std.proofs.Common.{◌≡◌, ◌≢◌, ◌⊎◌, ℕ, zero, suc, ◌+◌, ◌^◌, ◌<◌, ◌≤◌, Bool, true, false, cond, List, [], ◌∷◌, ◌++◌, length, slice_get, slice_index}
-use Rattle.std.proofs.Common.{Some, All, refl, sym, ap, ◌∙◌, subst, arith, inl, inr}
+use Rattle.std.proofs.Common.{refl, sym, ap, ◌∙◌, subst, arith, inl, inr}
 use Rattle.std.proofs.lemmas.Bool.{cases_eq, ne_eqb}
 use Rattle.std.proofs.lemmas.List.{append_assoc, append-nil}
-use Rattle.word_ops.specs.Memory.{read}
 use Rattle.alpha_words.specs.declared.insn.Insn.{Insn}
 use Rattle.alpha_cfg.specs.Machine.{State, IsState}
 use Rattle.x86_words.specs.declared.insn.X86Insn.{X86Insn}
 use Rattle.x86_words.specs.declared.insn.X86Insn.TheVariants.{Mov, MovZero, Store}
-use Rattle.x86_machine.specs.declared.outcome.X86Step.TheVariants as steps
-use Rattle.x86_machine.specs.declared.outcome.X86Outcome.TheVariants as outcomes
-use Rattle.x86_machine.specs.Machine.{X86, IsX86, x86_run}
+use Rattle.x86_machine.specs.Machine.{X86, IsX86}
 use Rattle.native_steps.specs.declared.places.Place.{Place}
 use Rattle.native_steps.specs.declared.places.Place.TheVariants.{Register, Slot, Nowhere}
 use Rattle.native_steps.specs.Places.{Places, ArePlaces, place_at, slot, is_free, is_callee_saved, RAX, RCX, FUEL, AREA}
@@ -24,7 +21,7 @@ use Rattle.native_code.specs.Blocks.{save_place, enter, clear, entry_code, for_r
 use Rattle.native_code.specs.declared.insn.NativeInsn.{NativeInsn}
 use Rattle.native_code.specs.Blocks.{plain, block_at, front_code}
 use Rattle.native_code.specs.Layout.{offset_of, native_text}
-use Rattle.native_code.specs.Calls.{IsCall, Called}
+use Rattle.native_code.specs.Calls.{IsCall, AgreesAt, Called}
 use Rattle.native_code.proofs.Texts.{plain-length, Lies, entry-lies}
 use Rattle.native_code.proofs.Reaching.{Reaches, reach-straight, reached}
 use Rattle.native_code.proofs.Entering.{Partly, partly-as, partly-all, With, Enters, entered}
@@ -292,22 +289,33 @@ front-begins p metered code (suc n) =
     let next : List NativeInsn = block_at p metered code n (slice_get code n) in
     record { rest = b.rest ++ next; whole = ap (λ l. l ++ next) b.whole ∙ append_assoc (plain (entry_code p)) b.rest next }
 
-pub called : Called
-called = λ p metered code call s x is of state lent h.
+-- as many steps as the entry has instructions lead to the first block
+pub record Entered (p : Places) (metered : Bool) (code : List Insn) (call : Call) (s : State) (x : X86) : Type 0 where
+  pub end : X86
+  pub reaches : Reaches (native_text p metered code) (length (entry_code p)) x end
+  pub agrees : AgreesAt p metered code call s end
+
+pub begins : (p : Places) (metered : Bool) (code : List Insn) (call : Call) (s : State) (x : X86) → ArePlaces p → IsState s → IsLent call s.rights →
+    IsCall call s x →
+    Entered p metered code call s x
+begins p metered code call s x places state lent h =
     let b = front-begins p metered code (suc (length code)) in
     let text : List ℕ = native_text p metered code in
-    let e = entry-runs p call s of.places lent x state h in
+    let e = entry-runs p call s places lent x state h in
     let lies : Lies text x.at (entry_code p) =
     subst (λ n. Lies text n (entry_code p)) (sym h.at) (entry-lies p metered code b.rest (entry_code p) b.whole) in
-    let r : Reaches text x e.end = reach-straight text (entry_code p) x e.end lies (entry-straight p call s of.places lent) e.runs.runs in
     let first : e.end.at ≡ offset_of p metered code 0 =
     let a = e.runs.at in
     let z = h.at in
     let n = plain-length (entry_code p) in
     omega (arith, a, z, n) in
     record {
-      count = r.count;
       end = e.end;
-      runs = reached text x e.end r;
+      reaches = reach-straight text (entry_code p) x e.end lies (entry-straight p call s places lent) e.runs.runs;
       agrees = record { at = first ∙ ap (offset_of p metered code) (sym h.start); agrees = e.agrees };
     }
+
+pub called : Called
+called = λ p metered code call s x is of state lent h.
+    let e = begins p metered code call s x of.places state lent h in
+    record { count = length (entry_code p); end = e.end; runs = reached (native_text p metered code) x e.end e.reaches; agrees = e.agrees }

@@ -1,25 +1,24 @@
 -- The entry: from a call to a state that agrees with the Alpha state at index 0.
-use Rattle.std.proofs.Common.{◌≡◌, ◌≢◌, ◌⊎◌, ℕ, zero, suc, ◌+◌, ◌*◌, ◌%◌, ◌^◌, ◌<◌, ◌≤◌, Bool, true, false, cond, List, [], ◌∷◌, ◌++◌, length, slice_index}
-use Rattle.std.proofs.Common.{Some, refl, sym, ap, ◌∙◌, subst, arith, inl, inr}
-use Rattle.std.proofs.lemmas.Bool.{cases_eq, cases_lt, or_cases}
+use Rattle.std.proofs.Common.{◌≡◌, ◌≢◌, ◌⊎◌, ℕ, ◌+◌, ◌*◌, ◌%◌, ◌^◌, ◌<◌, ◌≤◌, Bool, true, false, cond, List, [], ◌∷◌, ◌++◌, slice_index}
+use Rattle.std.proofs.Common.{refl, sym, ap, ◌∙◌, subst, arith, inl, inr}
 use Rattle.word_ops.specs.Memory.{read, write}
 use Rattle.word_ops.specs.Rights.{Rights, in_span, allowed}
 use Rattle.word_ops.proofs.Memories.{read-write_same, read-write_other, IsMemory-write}
-use Rattle.alpha_cfg.specs.Machine.{State, IsState}
+use Rattle.alpha_cfg.specs.Machine.{State}
 use Rattle.x86_words.specs.declared.insn.X86Insn.{X86Insn}
-use Rattle.x86_words.specs.declared.insn.X86Insn.TheVariants.{Mov, MovZero, Store}
+use Rattle.x86_words.specs.declared.insn.X86Insn.TheVariants.{Mov, Store}
 use Rattle.x86_machine.specs.declared.outcome.X86Step.{X86Step}
 use Rattle.x86_machine.specs.declared.outcome.X86Step.TheVariants as steps
 use Rattle.x86_machine.specs.Machine.{X86, IsX86, extended, disp_address, x86_outcome}
 use Rattle.native_steps.specs.declared.places.Place.{Place}
 use Rattle.native_steps.specs.declared.places.Place.TheVariants.{Register, Slot, Nowhere}
-use Rattle.native_steps.specs.Places.{Places, ArePlaces, is_somewhere, place_at, slot, slot_address, is_free, is_callee_saved, RAX, RCX, FUEL, AREA}
+use Rattle.native_steps.specs.Places.{Places, ArePlaces, is_somewhere, place_at, slot, slot_address, is_free, is_callee_saved, FUEL, AREA}
 use Rattle.native_steps.specs.Sequences.{keep_place}
 use Rattle.native_steps.specs.Agreement.{Call, area_span, native_rights, IsLent, Agrees}
-use Rattle.native_steps.proofs.Straights.{Runs, none-run, then-run, both-run}
+use Rattle.native_steps.proofs.Straights.{Runs, none-run, then-run}
 use Rattle.native_steps.proofs.Frames.{wrote, wrote-is, wrote-reads, wrote-other, isnt, free-below}
 use Rattle.native_steps.proofs.Operands.{slot-is, slot-allowed, placed-below, outside, same-register}
-use Rattle.native_code.specs.Blocks.{save_place, enter, is_argument, RDX}
+use Rattle.native_code.specs.Blocks.{save_place, enter}
 
 -- one register more
 abbrev pub With : ℕ → (ℕ → Type 0) → ℕ → Type 0

@@ -1,6 +1,6 @@
 -- Native code is short, so each displacement fits.
 use Rattle.std.proofs.Common.{◌≡◌, ℕ, zero, suc, ◌+◌, ◌*◌, ◌^◌, ◌<◌, ◌≤◌, Bool, true, false, cond, ◌&&◌, eqb, List, [], ◌∷◌, ◌++◌}
-use Rattle.std.proofs.Common.{length, slice_get, Option, Some, None}
+use Rattle.std.proofs.Common.{length, slice_get, Option, Some, None, refl, ap}
 use Rattle.std.proofs.Common.{ℤ, pos, negsuc, ◌-ℤ◌, FitsSigned, arith, length-append}
 use Rattle.std.specs.Int.{w32}
 use Rattle.std.proofs.lemmas.Int.{ints}
@@ -8,7 +8,7 @@ use borrow.Author.Differences.{up, down}
 use Rattle.word_ops.specs.declared.Op.{Op}
 use Rattle.word_ops.specs.declared.Op.TheVariants as ops
 use Rattle.alpha_words.specs.declared.insn.Insn.{Insn}
-use Rattle.alpha_cfg.specs.Actions.{Computed, Sum, Applied, Test, Always, When, Action, action_of}
+use Rattle.alpha_cfg.specs.Actions.{Sum, Applied, Test, Always, When, Action, action_of}
 use Rattle.alpha_cfg.specs.Actions as actions
 use Rattle.alpha_cfg.specs.Flow.{IsCode, jump_of}
 use Rattle.x86_words.specs.declared.operators.AluOp.TheVariants as alu
@@ -71,6 +71,10 @@ one-short Nop = omega arith
 all-short : (l : List X86Insn) → total_length l ≤ 10 * length l
 all-short [] = omega arith
 all-short (i ∷ rest) = let h = all-short rest in let k = one-short i in omega (arith, h, k)
+
+pub plain-count : (l : List X86Insn) → length (plain l) ≡ length l
+plain-count [] = refl
+plain-count (i ∷ rest) = ap suc (plain-count rest)
 
 plain-short : (l : List X86Insn) (n : ℕ) → length l ≤ n → code_length (plain l) ≤ 10 * n
 plain-short l n h = let k = all-short l in let e = plain-length l in omega (arith, h, k, e)
@@ -140,8 +144,8 @@ module _ (p : Places) (places : ArePlaces p) where
   clear-count : (r : ℕ) → length (clear p r) ≤ 2
   clear-count r = either-count (is_argument r) [] (enter p r RAX) 2 (omega arith) (enter-count r RAX)
 
-  entry-short : code_length (plain (entry_code p)) ≤ 800
-  entry-short =
+  pub entry-count : length (entry_code p) ≤ 72
+  entry-count =
       let n = places.count in
       let clears = registers-count (clear p) 2 (length p) clear-count in
       let zeros : List X86Insn = MovZero RAX 0 ∷ for_registers (clear p) (length p) in
@@ -151,16 +155,19 @@ module _ (p : Places) (places : ArePlaces p) where
       both-count (enter p 16 RAX) (enter p 17 RCX ++ zeros) 2 65 (enter-count 16 RAX) second in
       let all : length (enter p 18 RDX ++ (enter p 16 RAX ++ (enter p 17 RCX ++ zeros))) ≤ 69 =
       both-count (enter p 18 RDX) (enter p 16 RAX ++ (enter p 17 RCX ++ zeros)) 2 67 (enter-count 18 RDX) first in
-      plain-short (entry_code p) 80 (omega (arith, all))
+      omega (arith, all)
 
-  exit-count : (why : ℕ) → length (exit_code p why) ≤ 33
+  entry-short : code_length (plain (entry_code p)) ≤ 800
+  entry-short = let n = entry-count in plain-short (entry_code p) 80 (omega (arith, n))
+
+  pub exit-count : (why : ℕ) → length (exit_code p why) ≤ 33
   exit-count why =
       let n = places.count in
       let all = registers-count (λ r. restore_place (place_at p r) r) 1 (length p) (λ r. restore_place-count (place_at p r) r) in
       let some : length (for_registers (λ r. restore_place (place_at p r) r) (length p)) ≤ 31 = omega (arith, n, all) in
       both-count (for_registers (λ r. restore_place (place_at p r) r) (length p)) (MovZero RDX why ∷ Ret ∷ []) 31 2 some (omega arith)
 
-  action-count : (e : Action) → length (action_code p e) ≤ 6
+  pub action-count : (e : Action) → length (action_code p e) ≤ 6
   action-count (actions.Compute to (Sum base disp)) =
       let k = both-count (computed_code p (Sum base disp)) (keep p to) 2 1 (omega arith) (keep-count to) in omega (arith, k)
   action-count (actions.Compute to (Applied op left right)) =
@@ -174,6 +181,19 @@ module _ (p : Places) (places : ArePlaces p) where
   action-count (actions.Branching Always) = omega arith
   action-count (actions.Branching (When c r)) = omega arith
   action-count actions.Return = omega arith
+
+  pub end-count : (e : Action) (jump : Option ℕ) → length (end_code p e jump) ≤ 34
+  end-count (actions.Branching test) None = omega arith
+  end-count (actions.Branching Always) (Some k) = omega arith
+  end-count (actions.Branching (When c r)) (Some k) = omega arith
+  end-count actions.Return jump =
+      let h = exit-count 0 in
+      let same = plain-count (return_code p) in
+      omega (arith, h, same)
+  end-count (actions.Compute to word) jump = omega arith
+  end-count (actions.Load to base disp) jump = omega arith
+  end-count (actions.LoadAround to base disp) jump = omega arith
+  end-count (actions.Store from base disp) jump = omega arith
 
   branch-short : (test : Test) (jump : Option ℕ) → code_length (branch_code p test jump) ≤ 340
   branch-short test None = omega arith

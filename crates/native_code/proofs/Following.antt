@@ -1,5 +1,5 @@
 -- Native code follows every Alpha run for which the fuel is enough, and ends where it isn't.
-use Rattle.std.proofs.Common.{◌≡◌, ◌≢◌, ℕ, zero, suc, ◌+◌, ◌-◌, ◌^◌, ◌<◌, ◌≤◌, Bool, true, false, cond, ◌&&◌, List, [], ◌∷◌, length, slice_get, slice_index}
+use Rattle.std.proofs.Common.{◌≡◌, ℕ, zero, suc, ◌+◌, ◌-◌, ◌<◌, ◌≤◌, Bool, true, false, cond, ◌&&◌, List, [], ◌∷◌, length, slice_get, slice_index}
 use Rattle.std.proofs.Common.{Option, Some, None, refl, sym, ap, ◌∙◌, subst, arith, inl, inr}
 use Rattle.std.proofs.lemmas.Bool.{cases_eq, cases_Bool}
 use Rattle.std.proofs.lemmas.Option.{slice_get_within, slice_get_past}
@@ -9,45 +9,47 @@ use Rattle.alpha_cfg.specs.declared.outcome.Step.{Step}
 use Rattle.alpha_cfg.specs.declared.outcome.Step.TheVariants as moves
 use Rattle.alpha_cfg.specs.declared.outcome.Outcome.{Outcome}
 use Rattle.alpha_cfg.specs.declared.outcome.Outcome.TheVariants as ends
-use Rattle.alpha_cfg.specs.Flow.{IsCode}
+use Rattle.alpha_cfg.specs.Actions.{action_of}
+use Rattle.alpha_cfg.specs.Flow.{IsCode, jump_of}
 use Rattle.alpha_cfg.specs.Machine.{State, IsState, insn_outcome, step_at, ends_with, run_of}
 use Rattle.alpha_cfg.proofs.States.{IsAt, insn_outcome-keeps, insn_outcome-rights}
-use Rattle.x86_words.specs.declared.insn.X86Insn.{X86Insn}
 use Rattle.x86_words.specs.declared.insn.X86Insn.TheVariants.{MovZero}
 use Rattle.x86_machine.specs.declared.outcome.X86Outcome.TheVariants as outcomes
 use Rattle.x86_machine.specs.Machine.{X86, x86_run}
-use Rattle.native_steps.specs.Places.{Places, ArePlaces, FUEL, RAX}
+use Rattle.native_steps.specs.Places.{Places, RAX}
+use Rattle.native_steps.specs.Sequences.{insn_code}
 use Rattle.native_steps.specs.Straight.{total_length}
 use Rattle.native_steps.specs.Agreement.{Call, IsLent, Agrees}
 use Rattle.native_steps.proofs.Frames.{wrote, wrote-same, wrote-reads, agrees-same}
 use Rattle.native_steps.proofs.Encodable.{straight}
-use Rattle.native_code.specs.Heads.{IsLoopHead, is_loop_head, if_moved, arrivals}
+use Rattle.native_code.specs.Heads.{IsLoopHead, is_loop_head, if_moved, arrivals, fuel_of}
 use Rattle.native_code.specs.declared.insn.NativeInsn.{NativeInsn}
-use Rattle.native_code.specs.Blocks.{fuel_code, block_at, exit_code, spent_code}
+use Rattle.native_code.specs.Blocks.{fuel_code, end_code, block_at, exit_code, spent_code}
 use Rattle.native_code.specs.Layout.{code_length, placed_from, offset_of, native_text}
-use Rattle.native_code.specs.Calls.{ArePlacesOf, spend, IsCallEnd, AgreesAt, fuel_of, Comes, Leaves, Follows, SimulatesRuns, Spends}
+use Rattle.native_code.specs.Calls.{ArePlacesOf, spend, IsCallEnd, AgreesAt, Comes, Leaves, Follows, SimulatesRuns, Spends}
 use Rattle.native_code.proofs.Texts.{Lies, lies-as, lies-back, placed-plain, block-lies, block}
 use Rattle.native_code.proofs.Reaching.{Reaches, reach-none, reach-both, reach-one, reached}
 use Rattle.native_code.proofs.Leaving.{leaves}
 use Rattle.native_code.proofs.Heading.{heads}
 use Rattle.native_code.proofs.Stepping.{agrees-fuel, Charged, charged, Spent, spent, Moves, moves-on}
-use Rattle.native_code.proofs.Stepping.{returns-so, middle, taking, charging-lies, near}
+use Rattle.native_code.proofs.Stepping.{returns-so, middle, taking, taking-most, IsNext, block-count, charging-lies, near}
+use Rattle.native_code.proofs.Fitting.{end-count}
 
 -- ---- units
 
 -- what a step takes and what the rest takes
-sum-is : (m h : Bool) (a : ℕ) → cond m (cond h 1 0 + a) 0 ≡ cond (m && h) 1 0 + cond m a 0
+pub sum-is : (m h : Bool) (a : ℕ) → cond m (cond h 1 0 + a) 0 ≡ cond (m && h) 1 0 + cond m a 0
 sum-is true h a = refl
 sum-is false h a = omega arith
 
-nothing : (m : Bool) → ◌≡◌ {A = ℕ} (cond m 0 0) 0
+pub nothing : (m : Bool) → ◌≡◌ {A = ℕ} (cond m 0 0) 0
 nothing true = refl
 nothing false = refl
 
-no-unit : (b : Bool) → b ≡ false → ◌≡◌ {A = ℕ} (cond b 1 0) 0
+pub no-unit : (b : Bool) → b ≡ false → ◌≡◌ {A = ℕ} (cond b 1 0) 0
 no-unit b e = ap (λ c. cond c 1 0) e
 
-unit-most : (b : Bool) → cond b 1 0 ≤ 1
+pub unit-most : (b : Bool) → cond b 1 0 ≤ 1
 unit-most true = omega arith
 unit-most false = omega arith
 
@@ -58,7 +60,7 @@ missing-insn (x ∷ rest) zero low e = absurd cc
 missing-insn (x ∷ rest) (suc i) low e = missing-insn rest i (omega (arith, low)) e
 
 -- a loop head is an index of the code
-head-inside : (code : List Insn) (i : ℕ) → is_loop_head code i ≡ true → i < length code
+pub head-inside : (code : List Insn) (i : ℕ) → is_loop_head code i ≡ true → i < length code
 head-inside code i e =
     let h : IsLoopHead code i = (heads code i).0 e in
     let low = slice_get_within code h.from h.insn h.here in
@@ -67,10 +69,10 @@ head-inside code i e =
 
 -- ---- the caller's side
 
-lent-spent : (call : Call) (f : ℕ) (rights : Rights) → IsLent call rights → IsLent (record call { fuel = f }) rights
+pub lent-spent : (call : Call) (f : ℕ) (rights : Rights) → IsLent call rights → IsLent (record call { fuel = f }) rights
 lent-spent call f rights h = record { span = h.span; unread = h.unread; unwritten = h.unwritten }
 
-return-spent : (call : Call) (f word why : ℕ) (s : State) (y : X86) → IsCallEnd (record call { fuel = f }) word why s y → IsCallEnd call word why s y
+pub return-spent : (call : Call) (f word why : ℕ) (s : State) (y : X86) → IsCallEnd (record call { fuel = f }) word why s y → IsCallEnd call word why s y
 return-spent call f word why s y h = record { word_is = h.word_is; why_is = h.why_is; kept = h.kept; memory = h.memory }
 
 module _ (p : Places) (metered : Bool) (code : List Insn) (ok : IsCode code) (of : ArePlacesOf p code) where
@@ -82,35 +84,90 @@ module _ (p : Places) (metered : Bool) (code : List Insn) (ok : IsCode code) (of
 
   -- ---- steps before
 
-  come-by : (call : Call) (t : State) (x y : X86) → Reaches text x y → AgreesAt p metered code call t y → Comes p metered code call t x
-  come-by call t x y r a = record { count = r.count; end = y; runs = reached text x y r; agrees = a }
+  come-by : {k : ℕ} (call : Call) (t : State) (x y : X86) → Reaches text k x y → AgreesAt p metered code call t y → Comes p metered code call t x
+  come-by {k = k} call t x y r a = record { count = k; end = y; runs = reached text x y r; agrees = a }
 
-  leave-by : (call : Call) (f word why : ℕ) (t : State) (x y : X86) → Reaches text x y → Leaves p metered code (record call { fuel = f }) word why t y →
+  leave-by : {k : ℕ} (call : Call) (f word why : ℕ) (t : State) (x y : X86) → Reaches text k x y →
+      Leaves p metered code (record call { fuel = f }) word why t y →
       Leaves p metered code call word why t x
-  leave-by call f word why t x y r l = record {
-    count = r.count + l.count;
+  leave-by {k = k} call f word why t x y r l = record {
+    count = k + l.count;
     end = l.end;
     left = r.runs l.count ∙ l.left;
     returns = return-spent call f word why t l.end l.returns;
   }
 
-  come-on : (call : Call) (k f total : ℕ) (t : State) (x y : X86) → total ≡ k + f → Reaches text x y → Comes p metered code (spend (spend call k) f) t y →
+  come-on : {n : ℕ} (call : Call) (k f total : ℕ) (t : State) (x y : X86) → total ≡ k + f → Reaches text n x y →
+      Comes p metered code (spend (spend call k) f) t y →
       Comes p metered code (spend call total) t x
-  come-on call k f total t x y sum r c =
+  come-on {n = n} call k f total t x y sum r c =
       let less : call.fuel - k - f ≡ call.fuel - total = omega (arith, sum) in
       record {
-        count = r.count + c.count;
+        count = n + c.count;
         end = c.end;
         runs = r.runs c.count ∙ c.runs;
         agrees = subst (λ n. AgreesAt p metered code (record call { fuel = n }) t c.end) less c.agrees;
       }
 
-  onward : (call : Call) (k f total : ℕ) (r : Outcome × State) (x y : X86) → total ≡ k + f → Reaches text x y →
+  onward : {n : ℕ} (call : Call) (k f total : ℕ) (r : Outcome × State) (x y : X86) → total ≡ k + f → Reaches text n x y →
       Follows p metered code (spend call k) f r y →
       Follows p metered code call total r x
   onward call k f total (ends.OutOfSteps, t) x y sum r h = come-on call k f total t x y sum r h
   onward call k f total (ends.Returned word, t) x y sum r h = leave-by call (call.fuel - k) word 0 t x y r h
   onward call k f total (ends.Blocked index kind addr, t) x y sum r h = tt
+
+  -- no more than so many steps end the call
+  pub record LeavesIn (call : Call) (word why : ℕ) (t : State) (x : X86) (most : ℕ) : Type 0 where
+    pub count : ℕ
+    pub within : count ≤ most
+    pub end : X86
+    pub left : x86_run text count x ≡ (outcomes.Left, end)
+    pub returns : IsCallEnd call word why t end
+
+  as-leaves : (call : Call) (word why : ℕ) (t : State) (x : X86) (most : ℕ) → LeavesIn call word why t x most → Leaves p metered code call word why t x
+  as-leaves call word why t x most l = record { count = l.count; end = l.end; left = l.left; returns = l.returns }
+
+  leave-in : {k : ℕ} (call : Call) (f word why most all : ℕ) (t : State) (x y : X86) → Reaches text k x y → k + most ≤ all →
+      LeavesIn (record call { fuel = f }) word why t y most →
+      LeavesIn call word why t x all
+  leave-in {k = k} call f word why most all t x y r sum l = record {
+    count = k + l.count;
+    within = let w = l.within in omega (arith, sum, w);
+    end = l.end;
+    left = r.runs l.count ∙ l.left;
+    returns = return-spent call f word why t l.end l.returns;
+  }
+
+  -- the last block ends the call
+  spent-leaves : (call : Call) (f : ℕ) (s : State) (x : X86) → IsLent call s.rights → x.at ≡ offset (length code) → Agrees p (record call { fuel = f }) s x →
+      LeavesIn (record call { fuel = f }) 0 1 s x (length (spent_code p))
+  spent-leaves call f s x lent at_end agrees =
+      let n : ℕ = length code in
+      let none : slice_get code n ≡ None = slice_get_past code n (omega arith) in
+      let is : placed_from offset (offset n) (block p metered code n) ≡ spent_code p =
+      ap (λ o. placed_from offset (offset n) (block_at p metered code n o)) none ∙ placed-plain offset (offset n) (spent_code p) in
+      let lies : Lies text x.at (spent_code p) =
+      subst (λ k. Lies text k (spent_code p)) (sym at_end)
+      (lies-as text (offset n) (placed_from offset (offset n) (block p metered code n)) (spent_code p) is (block-lies p metered code n (omega arith))) in
+      let y : X86 = wrote x (x.at + 6) x.flags RAX 0 in
+      let zero-is = straight (MovZero RAX 0) (omega arith, omega arith) refl refl in
+      let to-y : Reaches text 1 x y = reach-one text x y (MovZero RAX 0) (exit_code p 1) zero-is.insn lies refl in
+      let place : x.at + total_length (MovZero RAX 0 ∷ []) ≡ y.at = omega arith in
+      let behind : Lies text y.at (exit_code p 1) =
+      subst (λ k. Lies text k (exit_code p 1)) place (lies-back text x.at (MovZero RAX 0 ∷ []) (exit_code p 1) lies) in
+      let call_then : Call = record call { fuel = f } in
+      let y-agrees : Agrees p call_then s y =
+      agrees-same p call_then s x y of.places agrees (wrote-same x (x.at + 6) x.flags RAX 0 agrees.machine (omega arith) (omega arith)) in
+      let l =
+      leaves p call_then s of.places (lent-spent call f s.rights lent) y y-agrees text 0 1 (omega arith)
+      (wrote-reads x (x.at + 6) x.flags RAX 0 agrees.machine (omega arith)) behind in
+      record {
+        count = 1 + l.count;
+        within = let a = l.all in omega (arith, a);
+        end = l.end;
+        left = to-y.runs l.count ∙ l.left;
+        returns = l.returns;
+      }
 
   -- ---- one step
 
@@ -118,11 +175,15 @@ module _ (p : Places) (metered : Bool) (code : List Insn) (ok : IsCode code) (of
     abbrev head : Bool
     head = is_loop_head code s.index
 
-    abbrev takes : Bool
+    abbrev pub takes : Bool
     takes = metered && head
 
     -- the block's first part is done
     module _ (insn : Insn) (here : slice_get code s.index ≡ Some insn) where
+      -- the words of the block
+      abbrev pub size : ℕ
+      size = length (block p metered code s.index)
+
       charged-here : cond takes 1 0 ≤ call.fuel → Charged p metered code ok of call s x takes
       charged-here enough =
           let first : List NativeInsn = fuel_code p metered code s.index in
@@ -135,45 +196,104 @@ module _ (p : Places) (metered : Bool) (code : List Insn) (ok : IsCode code) (of
       at-middle : (c : Charged p metered code ok of call s x takes) → c.end.at ≡ middle p metered code ok of s.index insn here
       at-middle c = c.at ∙ ap (λ n. n + code_length (fuel_code p metered code s.index)) agrees.at
 
-      state-after : (u : State) → insn_outcome insn s ≡ (moves.Moved, u) → IsState u
+      pub state-after : (u : State) → insn_outcome insn s ≡ (moves.Moved, u) → IsState u
       state-after u e =
           let is : IsAt (length code) s = record { index = slice_get_within code s.index insn here; state = state } in
           let k : IsAt (length code) (insn_outcome insn s).1 = insn_outcome-keeps code insn s ok here (ok.encoded s.index insn here) is in
           subst (λ (q : Step × State). IsState q.1) e k.state
 
-      lent-after : (f : ℕ) (u : State) → insn_outcome insn s ≡ (moves.Moved, u) → IsLent (record call { fuel = f }) u.rights
+      pub lent-after : (f : ℕ) (u : State) → insn_outcome insn s ≡ (moves.Moved, u) → IsLent (record call { fuel = f }) u.rights
       lent-after f u e =
           let same : s.rights ≡ u.rights = sym (insn_outcome-rights insn s) ∙ ap (λ (q : Step × State). q.1.rights) e in
           lent-spent call f u.rights (subst (IsLent call) same lent)
 
-      -- to the next block
-      record StepsOn (u : State) : Type 0 where
-        end : X86
-        reaches : Reaches text x end
-        agrees_then : AgreesAt p metered code (spend call (cond takes 1 0)) u end
+      sizes : size ≡ length (taking p metered code ok of takes) + (length (insn_code p insn) + length (end_code p (action_of insn) (jump_of s.index insn)))
+      sizes = block-count p metered code ok of s.index insn here
 
-      steps-on : (u : State) → cond takes 1 0 ≤ call.fuel → insn_outcome insn s ≡ (moves.Moved, u) → StepsOn u
+      pub wanted-size : takes ≡ true → 2 ≤ size
+      wanted-size wanted =
+          let two : length (taking p metered code ok of takes) ≡ 2 = ap (λ b. length (taking p metered code ok of b)) wanted in
+          let all = sizes in
+          omega (arith, two, all)
+
+      -- one or more steps lead to the next block
+      pub record StepsOn (u : State) : Type 0 where
+        pub count : ℕ
+        pub some : 1 ≤ count
+        pub few : count ≤ size
+        pub brief : count ≤ 9
+        pub end : X86
+        pub reaches : Reaches text count x end
+        pub next : IsNext p metered code ok of s.index insn here u.index
+        pub agrees_then : AgreesAt p metered code (spend call (cond takes 1 0)) u end
+
+      pub steps-on : (u : State) → cond takes 1 0 ≤ call.fuel → insn_outcome insn s ≡ (moves.Moved, u) → StepsOn u
       steps-on u enough e =
           let c = charged-here enough in
           let spent_call : Call = spend call (cond takes 1 0) in
           let m : Moves p metered code ok of s.index insn here spent_call u c.end =
           moves-on p metered code ok of s.index insn here spent_call s u c.end state (lent-spent call (call.fuel - cond takes 1 0) s.rights lent) refl
           (at-middle c) c.agrees e in
-          record { end = m.end; reaches = reach-both text x c.end m.end c.reaches m.reaches; agrees_then = m.agrees }
+          let charge : ℕ = length (taking p metered code ok of takes) in
+          let two = taking-most p metered code ok of takes in
+          let some = m.some in
+          let few = m.few in
+          let brief = m.brief in
+          let all = sizes in
+          record {
+            count = charge + m.count;
+            some = omega (arith, some);
+            few = omega (arith, few, all);
+            brief = omega (arith, brief, two);
+            end = m.end;
+            reaches = reach-both text x c.end m.end c.reaches m.reaches;
+            next = m.next;
+            agrees_then = m.agrees;
+          }
 
       -- a return ends the call
-      ends-so : (u : State) → cond takes 1 0 ≤ call.fuel → insn_outcome insn s ≡ (moves.Returned, u) →
-          Leaves p metered code call (slice_index u.regs 0) 0 u x
+      pub record EndsHere (u : State) : Type 0 where
+        pub most : ℕ
+        pub few : most ≤ size
+        pub brief : most ≤ 36
+        pub leaves : LeavesIn call (slice_index u.regs 0) 0 u x most
+
+      pub ends-so : (u : State) → cond takes 1 0 ≤ call.fuel → insn_outcome insn s ≡ (moves.Returned, u) → EndsHere u
       ends-so u enough e =
           let c = charged-here enough in
           let spent_call : Call = spend call (cond takes 1 0) in
           let r =
           returns-so p metered code ok of s.index insn here spent_call s u c.end state (lent-spent call (call.fuel - cond takes 1 0) s.rights lent) refl
           (at-middle c) c.agrees u e in
-          let l : Leaves p metered code spent_call (slice_index s.regs 0) 0 s c.end =
-          record { count = r.0.count; end = r.0.end; left = r.0.left; returns = r.0.returns } in
-          subst (λ (v : State). Leaves p metered code call (slice_index v.regs 0) 0 v x) (sym r.1)
-          (leave-by call (call.fuel - cond takes 1 0) (slice_index s.regs 0) 0 s x c.end c.reaches l)
+          let last : ℕ = length (end_code p (action_of insn) (jump_of s.index insn)) in
+          let l : LeavesIn spent_call (slice_index s.regs 0) 0 s c.end last =
+          record { count = r.0.count; within = let a = r.0.all in omega (arith, a); end = r.0.end; left = r.0.left; returns = r.0.returns } in
+          let most : ℕ = length (taking p metered code ok of takes) + last in
+          let two = taking-most p metered code ok of takes in
+          let short = end-count p of.places (action_of insn) (jump_of s.index insn) in
+          let all = sizes in
+          record {
+            most = most;
+            few = omega (arith, all);
+            brief = omega (arith, two, short);
+            leaves =
+                subst (λ (v : State). LeavesIn call (slice_index v.regs 0) 0 v x most) (sym r.1)
+                (leave-in call (call.fuel - cond takes 1 0) (slice_index s.regs 0) 0 last most s x c.end c.reaches (omega arith) l);
+          }
+
+      -- the unit that is wanted here is missing
+      pub missing : takes ≡ true → call.fuel ≡ 0 → LeavesIn call 0 1 s x (2 + length (spent_code p))
+      missing wanted none =
+          let first : List NativeInsn = fuel_code p metered code s.index in
+          let lies : Lies text x.at (placed_from offset x.at first) =
+          subst (λ k. Lies text k (placed_from offset k first)) (sym agrees.at) (charging-lies p metered code ok of s.index insn here) in
+          let near_by = near p metered code ok of s.index insn here in
+          let start = agrees.at in
+          let sp : Spent p metered code ok of call s x =
+          spent p metered code ok of call s x agrees.agrees (omega (arith, near_by, start))
+          (subst (λ b. Lies text x.at (placed_from offset x.at (taking p metered code ok of b))) wanted lies) none in
+          leave-in call sp.fuel 0 1 (length (spent_code p)) (2 + length (spent_code p)) s x sp.end sp.reaches (omega arith)
+          (spent-leaves call sp.fuel s sp.end lent sp.at sp.agrees)
 
   -- ---- runs
 
@@ -184,8 +304,8 @@ module _ (p : Places) (metered : Bool) (code : List Insn) (ok : IsCode code) (of
   -- every run of at most n steps is followed
   abbrev FollowsAll : ℕ → Type 0
   FollowsAll n =
-      (call : Call) (s : State) (x : X86) → IsState s → IsLent call s.rights → AgreesAt p metered code call s x → fuel_of p metered code n s ≤ call.fuel →
-      Follows p metered code call (fuel_of p metered code n s) (run_of code n s) x
+      (call : Call) (s : State) (x : X86) → IsState s → IsLent call s.rights → AgreesAt p metered code call s x → fuel_of metered code n s ≤ call.fuel →
+      Follows p metered code call (fuel_of metered code n s) (run_of code n s) x
 
   follow-none : FollowsAll zero
   follow-none = λ call s x state lent a enough.
@@ -205,13 +325,14 @@ module _ (p : Places) (metered : Bool) (code : List Insn) (ok : IsCode code) (of
           let most-is : cond metered (cond (is_loop_head code s.index) 1 0 + arrivals code n u) 0 ≤ call.fuel = most in
           let left : cond metered (arrivals code n u) 0 ≤ call.fuel - units = omega (arith, sum, most-is) in
           let m = steps-on call s x state lent a insn here u (omega (arith, sum, most-is)) e in
-          onward call units (fuel_of p metered code n u) (total n s (moves.Moved, u)) (run_of code n u) x m.end sum m.reaches
+          onward call units (fuel_of metered code n u) (total n s (moves.Moved, u)) (run_of code n u) x m.end sum m.reaches
           (rest (spend call units) u m.end (state-after call s x state lent a insn here u e)
           (lent-after call s x state lent a insn here (call.fuel - units) u e) m.agrees_then left)
       by-step insn here (moves.Returned, u) e most =
           let sum = sum-is metered (is_loop_head code s.index) 0 in
           let most-is : cond metered (cond (is_loop_head code s.index) 1 0 + 0) 0 ≤ call.fuel = most in
-          ends-so call s x state lent a insn here u (omega (arith, sum, most-is)) e
+          let r = ends-so call s x state lent a insn here u (omega (arith, sum, most-is)) e in
+          as-leaves call (slice_index u.regs 0) 0 u x r.most r.leaves
       by-step insn here (moves.Blocked index kind addr, u) e most = tt
 
       by-insn : (o : Option Insn) → slice_get code s.index ≡ o → total n s (step_at o s) ≤ call.fuel →
@@ -229,36 +350,6 @@ follows = λ p metered code call n s x ok of state lent a enough. follow p meter
 -- ---- out of fuel
 
 module _ (p : Places) (code : List Insn) (ok : IsCode code) (of : ArePlacesOf p code) where
-  abbrev text_of : List ℕ
-  text_of = native_text p true code
-
-  -- the last block ends the call
-  spent-leaves : (call : Call) (f : ℕ) (s : State) (x : X86) → IsLent call s.rights → x.at ≡ offset_of p true code (length code) →
-      Agrees p (record call { fuel = f }) s x →
-      Leaves p true code call 0 1 s x
-  spent-leaves call f s x lent at_end agrees =
-      let n : ℕ = length code in
-      let off : ℕ → ℕ = offset_of p true code in
-      let none : slice_get code n ≡ None = slice_get_past code n (omega arith) in
-      let is : placed_from off (off n) (block p true code n) ≡ spent_code p =
-      ap (λ o. placed_from off (off n) (block_at p true code n o)) none ∙ placed-plain off (off n) (spent_code p) in
-      let lies : Lies text_of x.at (spent_code p) =
-      subst (λ k. Lies text_of k (spent_code p)) (sym at_end)
-      (lies-as text_of (off n) (placed_from off (off n) (block p true code n)) (spent_code p) is (block-lies p true code n (omega arith))) in
-      let y : X86 = wrote x (x.at + 6) x.flags RAX 0 in
-      let zero-is = straight (MovZero RAX 0) (omega arith, omega arith) refl refl in
-      let to-y : Reaches text_of x y = reach-one text_of x y (MovZero RAX 0) (exit_code p 1) zero-is.insn lies refl in
-      let place : x.at + total_length (MovZero RAX 0 ∷ []) ≡ y.at = omega arith in
-      let behind : Lies text_of y.at (exit_code p 1) =
-      subst (λ k. Lies text_of k (exit_code p 1)) place (lies-back text_of x.at (MovZero RAX 0 ∷ []) (exit_code p 1) lies) in
-      let call_then : Call = record call { fuel = f } in
-      let y-agrees : Agrees p call_then s y =
-      agrees-same p call_then s x y of.places agrees (wrote-same x (x.at + 6) x.flags RAX 0 agrees.machine (omega arith) (omega arith)) in
-      let l =
-      leaves p call_then s of.places (lent-spent call f s.rights lent) y y-agrees text_of 0 1 (omega arith)
-      (wrote-reads x (x.at + 6) x.flags RAX 0 agrees.machine (omega arith)) behind in
-      leave-by p true code ok of call f 0 1 s x y to-y (record { count = l.count; end = l.end; left = l.left; returns = l.returns })
-
   -- it does within n steps
   abbrev SpendsAll : ℕ → Type 0
   SpendsAll n =
@@ -273,21 +364,6 @@ module _ (p : Places) (code : List Insn) (ok : IsCode code) (of : ArePlacesOf p 
 
       abbrev Spending : Type 0
       Spending = (k : ℕ) × (k ≤ suc n) × Leaves p true code call 0 1 (run_of code k s).1 x
-
-      -- the unit that is wanted here is missing
-      missing : (insn : Insn) → slice_get code s.index ≡ Some insn → at_head ≡ true → call.fuel ≡ 0 → Spending
-      missing insn here head none =
-          let off : ℕ → ℕ = offset_of p true code in
-          let first : List NativeInsn = fuel_code p true code s.index in
-          let lies : Lies text_of x.at (placed_from off x.at first) =
-          subst (λ k. Lies text_of k (placed_from off k first)) (sym a.at) (charging-lies p true code ok of s.index insn here) in
-          let near_by = near p true code ok of s.index insn here in
-          let start = a.at in
-          let sp : Spent p true code ok of call s x =
-          spent p true code ok of call s x a.agrees (omega (arith, near_by, start))
-          (subst (λ b. Lies text_of x.at (placed_from off x.at (taking p true code ok of b))) head lies) none in
-          let l = spent-leaves call sp.fuel s sp.end lent sp.at sp.agrees in
-          (0, omega arith, leave-by p true code ok of call call.fuel 0 1 s x sp.end sp.reaches l)
 
       -- the unit is there
       there : (insn : Insn) → slice_get code s.index ≡ Some insn → (q : Step × State) → insn_outcome insn s ≡ q → cond at_head 1 0 ≤ call.fuel →
@@ -323,7 +399,9 @@ module _ (p : Places) (code : List Insn) (ok : IsCode code) (of : ArePlacesOf p 
           subst (λ k. call.fuel < k) as-insn more in
           elim (cases_eq call.fuel 0) [
             | inl none ↦ elim (cases_Bool at_head) [
-              | inl is ↦ missing insn here is none
+              | inl is ↦
+                  let l = missing p true code ok of call s x state lent a insn here is none in
+                  (0, omega arith, as-leaves p true code ok of call 0 1 s x (2 + length (spent_code p)) l)
               | inr other ↦ let u = no-unit at_head other in there insn here (insn_outcome insn s) refl (omega (arith, u)) most
             ]
             | inr some ↦ there insn here (insn_outcome insn s) refl (let u = unit-most at_head in omega (arith, u, some)) most

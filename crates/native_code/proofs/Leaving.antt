@@ -1,10 +1,10 @@
 -- The end of a call: what the caller wants back comes back, and `ret` leaves.
-use Rattle.std.proofs.Common.{◌≡◌, ◌≢◌, ◌⊎◌, ℕ, zero, suc, ◌+◌, ◌%◌, ◌^◌, ◌<◌, ◌≤◌, Bool, true, false, cond, List, [], ◌∷◌, ◌++◌, length, slice_index}
-use Rattle.std.proofs.Common.{Some, All, refl, sym, ap, ◌∙◌, subst, arith, inl, inr}
-use Rattle.std.proofs.lemmas.Bool.{cases_eq, cases_lt}
+use Rattle.std.proofs.Common.{◌≡◌, ◌≢◌, ◌⊎◌, ℕ, zero, suc, ◌+◌, ◌%◌, ◌^◌, ◌<◌, ◌≤◌, Bool, true, false, cond, List, [], ◌∷◌, length, slice_index}
+use Rattle.std.proofs.Common.{length-append, refl, sym, ap, ◌∙◌, subst, arith, inl, inr}
+use Rattle.std.proofs.lemmas.Bool.{cases_eq}
 use Rattle.word_ops.specs.Memory.{read}
 use Rattle.word_ops.proofs.Memories.{read-below}
-use Rattle.word_ops.specs.Rights.{Rights, in_span, allowed}
+use Rattle.word_ops.specs.Rights.{Rights, allowed}
 use Rattle.alpha_cfg.specs.Machine.{State}
 use Rattle.x86_words.specs.declared.insn.X86Insn.{X86Insn}
 use Rattle.x86_words.specs.declared.insn.X86Insn.TheVariants.{MovZero, Load, Ret}
@@ -17,7 +17,7 @@ use Rattle.native_steps.specs.Places.{Places, ArePlaces, is_somewhere, place_at,
 use Rattle.native_steps.specs.Straight.{IsStraight, total_length}
 use Rattle.native_steps.specs.Agreement.{Call, area_span, IsLent, Agrees}
 use Rattle.native_steps.proofs.Straights.{Runs, none-run, then-run, both-run}
-use Rattle.native_steps.proofs.Frames.{wrote, wrote-is, wrote-reads, wrote-other, isnt, free-below, free-above}
+use Rattle.native_steps.proofs.Frames.{wrote, wrote-is, wrote-reads, wrote-other, isnt, free-below}
 use Rattle.native_steps.proofs.Operands.{slot-is, slot-allowed, placed-below, same-register}
 use Rattle.native_steps.proofs.Encodable.{Straight, no-insn, one-straight, both-straight, straight, slot-fits}
 use Rattle.native_code.specs.Blocks.{for_registers, restore_place, exit_code, RDX}
@@ -204,9 +204,10 @@ module _ (p : Places) (call : Call) (s : State) (places : ArePlaces p) (lent : I
 
     -- ---- the end
 
-    -- some number of steps ends the call
+    -- as many steps as there are instructions end the call
     pub record LeavesBy (text : List ℕ) (word why : ℕ) : Type 0 where
       pub count : ℕ
+      pub all : count ≡ length (exit_code p why)
       pub end : X86
       pub left : x86_run text count x ≡ (outcomes.Left, end)
       pub returns : IsCallEnd call word why s end
@@ -219,20 +220,21 @@ module _ (p : Places) (call : Call) (s : State) (places : ArePlaces p) (lent : I
         let a = all-back n (omega (arith, n-is)) in
         let y : X86 = a.end in
         let h = a.restored in
-        let to-y : Reaches text x y =
+        let to-y : Reaches text (length (restores n)) x y =
         reach-straight text (restores n) x y (lies-front text x.at (restores n) last lies) (restores-straight n (omega (arith, n-is))) a.runs.runs in
         let behind : Lies text y.at last = subst (λ k. Lies text k last) (sym a.runs.at) (lies-back text x.at (restores n) last lies) in
         let z : X86 = wrote y (y.at + 6) y.flags RDX why in
         let zero-is : IsStraight (MovZero RDX why) = straight (MovZero RDX why) (omega arith, small) refl refl in
-        let to-z : Reaches text y z = reach-one text y z (MovZero RDX why) (Ret ∷ []) zero-is.insn behind refl in
-        let both : Reaches text x z = reach-both text x y z to-y to-z in
+        let to-z : Reaches text 1 y z = reach-one text y z (MovZero RDX why) (Ret ∷ []) zero-is.insn behind refl in
+        let both : Reaches text (length (restores n) + 1) x z = reach-both text x y z to-y to-z in
         let ret-lies : Lies text z.at (Ret ∷ []) =
         let place : y.at + total_length (MovZero RDX why ∷ []) ≡ y.at + 6 = omega arith in
         subst (λ k. Lies text k (Ret ∷ [])) place (lies-back text y.at (MovZero RDX why ∷ []) (Ret ∷ []) behind) in
         let ret-is : x86_run text 1 z ≡ (outcomes.Left, z) = run-step text 0 z Ret [] (record { widths = tt; operands = refl }) ret-lies in
         let other : (k : ℕ) → k ≢ RDX → slice_index z.regs k ≡ slice_index y.regs k = λ k apart. wrote-other y (y.at + 6) y.flags RDX why k apart in
         record {
-          count = both.count + 1;
+          count = length (restores n) + 1 + 1;
+          all = let e = length-append (restores n) last in omega (arith, e);
           end = z;
           left = both.runs 1 ∙ ret-is;
           returns = record {

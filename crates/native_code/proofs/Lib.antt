@@ -8,3 +8,4 @@ pub mod Called
 pub mod Fitting
 pub mod Stepping
 pub mod Following
+pub mod Ending

@@ -1,5 +1,5 @@
 -- Runs that lead from a state to another, however many steps follow.
-use Rattle.std.proofs.Common.{◌≡◌, ℕ, suc, ◌+◌, List, ◌∷◌, length, Some, refl, sym, ap, ◌∙◌, arith}
+use Rattle.std.proofs.Common.{◌≡◌, ℕ, suc, ◌+◌, List, ◌∷◌, length, Some, ap, ◌∙◌, subst, arith}
 use Rattle.x86_words.specs.declared.insn.X86Insn.{X86Insn}
 use Rattle.x86_words.specs.Encoding.{length_of, IsX86Insn}
 use Rattle.x86_machine.specs.declared.outcome.X86Step.TheVariants as steps
@@ -10,33 +10,35 @@ use Rattle.native_steps.proofs.Encodable.{Straight}
 use Rattle.native_code.proofs.Texts.{Lies}
 use Rattle.native_code.proofs.Walking.{run-moved, run-straight}
 
--- some number of steps leads from x to y
-pub record Reaches (text : List ℕ) (x y : X86) : Type 0 where
-  pub count : ℕ
+-- so many steps lead from x to y
+pub record Reaches (text : List ℕ) (count : ℕ) (x y : X86) : Type 0 where
   pub runs : (n : ℕ) → x86_run text (count + n) x ≡ x86_run text n y
 
-pub reach-none : (text : List ℕ) (x : X86) → Reaches text x x
-reach-none text x = record { count = 0; runs = λ n. let none : 0 + n ≡ n = omega arith in ap (λ m. x86_run text m x) none }
+pub reach-none : (text : List ℕ) (x : X86) → Reaches text 0 x x
+reach-none text x = record { runs = λ n. let none : 0 + n ≡ n = omega arith in ap (λ m. x86_run text m x) none }
 
-pub reach-both : (text : List ℕ) (x y z : X86) → Reaches text x y → Reaches text y z → Reaches text x z
-reach-both text x y z a b = record {
-  count = a.count + b.count;
+pub reach-both : {a b : ℕ} (text : List ℕ) (x y z : X86) → Reaches text a x y → Reaches text b y z → Reaches text (a + b) x z
+reach-both {a = a} {b = b} text x y z first second = record {
   runs = λ n.
-      let one : a.count + b.count + n ≡ a.count + (b.count + n) = omega arith in
-      ap (λ m. x86_run text m x) one ∙ a.runs (b.count + n) ∙ b.runs n;
+      let one : a + b + n ≡ a + (b + n) = omega arith in
+      ap (λ m. x86_run text m x) one ∙ first.runs (b + n) ∙ second.runs n;
 }
 
-pub reach-straight : (text : List ℕ) (l : List X86Insn) (x y : X86) → Lies text x.at l → Straight l → x86_straight l x ≡ Some y → Reaches text x y
-reach-straight text l x y h all e = record { count = length l; runs = λ n. run-straight l text n x y h all.all e }
+-- the same number, said otherwise
+pub reach-as : (text : List ℕ) (a b : ℕ) (x y : X86) → a ≡ b → Reaches text a x y → Reaches text b x y
+reach-as text a b x y e r = subst (λ n. Reaches text n x y) e r
+
+pub reach-straight : (text : List ℕ) (l : List X86Insn) (x y : X86) → Lies text x.at l → Straight l → x86_straight l x ≡ Some y →
+    Reaches text (length l) x y
+reach-straight text l x y h all e = record { runs = λ n. run-straight l text n x y h all.all e }
 
 pub reach-one : (text : List ℕ) (x y : X86) (i : X86Insn) (rest : List X86Insn) → IsX86Insn i → Lies text x.at (i ∷ rest) →
     x86_outcome x (x.at + length_of i) i ≡ (steps.Moved, y) →
-    Reaches text x y
+    Reaches text 1 x y
 reach-one text x y i rest is h e = record {
-  count = 1;
   runs = λ n. let one : 1 + n ≡ suc n = omega arith in ap (λ m. x86_run text m x) one ∙ run-moved text n x y i rest is h e;
 }
 
 -- the run of so many steps, and no more
-pub reached : (text : List ℕ) (x y : X86) (r : Reaches text x y) → x86_run text r.count x ≡ (outcomes.OutOfSteps, y)
-reached text x y r = let none : r.count ≡ r.count + 0 = omega arith in ap (λ m. x86_run text m x) none ∙ r.runs 0
+pub reached : {a : ℕ} (text : List ℕ) (x y : X86) → Reaches text a x y → x86_run text a x ≡ (outcomes.OutOfSteps, y)
+reached {a = a} text x y r = let none : a ≡ a + 0 = omega arith in ap (λ m. x86_run text m x) none ∙ r.runs 0

@@ -1,6 +1,6 @@
 -- One Alpha step: fuel, the block's sequence, and where it goes on.
-use Rattle.std.proofs.Common.{◌≡◌, ◌≢◌, ℕ, zero, suc, ◌+◌, ◌-◌, ◌^◌, ◌<◌, ◌≤◌, Bool, true, false, cond, List, [], ◌∷◌, ◌++◌, length, slice_get}
-use Rattle.std.proofs.Common.{FitsSigned, slice_index, Option, Some, None, ℤ, pos, negsuc, ◌+ℤ◌, refl, sym, ap, ◌∙◌, subst, arith, inl, inr}
+use Rattle.std.proofs.Common.{◌≡◌, ◌≢◌, ℕ, suc, ◌+◌, ◌-◌, ◌^◌, ◌<◌, ◌≤◌, Bool, true, false, cond, List, [], ◌∷◌, ◌++◌, length, slice_get}
+use Rattle.std.proofs.Common.{◌⊎◌, length-append, FitsSigned, slice_index, Option, Some, ℤ, pos, negsuc, ◌+ℤ◌, refl, sym, ap, ◌∙◌, subst, arith, inl, inr}
 use Rattle.std.specs.Int.{w32}
 use Rattle.std.proofs.lemmas.Bool.{ne_eqb, eq-eqb}
 use Rattle.std.proofs.lemmas.Option.{slice_get_within}
@@ -23,7 +23,7 @@ use Rattle.alpha_cfg.specs.declared.outcome.Kind.{Kind}
 use Rattle.alpha_cfg.specs.declared.outcome.Kind.TheVariants as kinds
 use Rattle.alpha_cfg.specs.declared.outcome.Step.{Step}
 use Rattle.alpha_cfg.specs.declared.outcome.Step.TheVariants as moves
-use Rattle.alpha_cfg.specs.Actions.{Test, Always, When, Action, action_of, format_action, memory_action}
+use Rattle.alpha_cfg.specs.Actions.{Sum, Applied, Test, Always, When, Action, action_of, format_action, memory_action}
 use Rattle.alpha_cfg.specs.Actions as actions
 use Rattle.alpha_cfg.specs.Flow.{IsCode, InsideOf, landing, jump_of}
 use Rattle.alpha_cfg.specs.Machine.{State, IsState, access_outcome, address_of, aligned, state_at, takes, action_outcome, insn_outcome}
@@ -33,31 +33,29 @@ use Rattle.x86_words.specs.declared.insn.X86Insn.{X86Insn}
 use Rattle.x86_words.specs.declared.insn.X86Insn.TheVariants.{AluImm, JumpIf, Jump}
 use Rattle.x86_words.specs.Encoding.{length_of, IsX86Insn}
 use Rattle.x86_machine.specs.declared.flags.Flags.{Flags}
-use Rattle.x86_machine.specs.declared.outcome.X86Step.TheVariants as steps
-use Rattle.x86_machine.specs.Flags.{alu_word, alu_flags, cond_holds, AfterSubOne}
+use Rattle.x86_machine.specs.Flags.{alu_word, alu_flags, AfterSubOne}
 use Rattle.x86_machine.specs.declared.outcome.X86Outcome.TheVariants as outcomes
-use Rattle.x86_machine.specs.Machine.{X86, IsX86, x86_run}
+use Rattle.x86_machine.specs.Machine.{X86, x86_run}
 use Rattle.x86_machine.proofs.Orders.{after_sub_one}
-use Rattle.native_steps.specs.Places.{Places, ArePlaces, IsSomewhere, place_at, is_free, is_callee_saved, AREA, FUEL, RAX}
+use Rattle.native_steps.specs.Places.{Places, ArePlaces, IsSomewhere, is_free, is_callee_saved, AREA, FUEL, RAX}
 use Rattle.native_steps.specs.Sequences.{ReadsPlaced, test_code, action_code, insn_code, branch_cond, fetch}
 use Rattle.native_steps.specs.Straight.{total_length, x86_straight}
 use Rattle.native_steps.specs.Agreement.{Call, IsLent, Agrees, EndsInAgreement, DecidesBranch}
-use Rattle.native_steps.proofs.Frames.{wrote, SameBut, wrote-is, wrote-reads, wrote-other, flags-same, agrees-same, isnt}
+use Rattle.native_steps.proofs.Frames.{wrote, wrote-is, wrote-reads, wrote-other, flags-same, agrees-same, isnt}
 use Rattle.native_steps.proofs.Operands.{agrees-index, fetched, with_reg, with-agrees, with-reads}
 use Rattle.native_steps.proofs.Instructions.{simulates, tests}
 use Rattle.native_steps.proofs.Encodable.{fetch-straight, sequence-straight}
 use Rattle.native_code.specs.declared.insn.NativeInsn.{NativeInsn}
 use Rattle.native_code.specs.declared.insn.NativeInsn.TheVariants.{Plain, Go, GoIf}
-use Rattle.native_code.specs.Heads.{is_loop_head}
-use Rattle.native_code.specs.Blocks.{plain, branch_code, end_code, fuel_code, block_of, block_at, exit_code, return_code}
-use Rattle.native_code.specs.Layout.{native_length, code_length, distance, placed_from, offset_of, native_text}
+use Rattle.native_code.specs.Blocks.{plain, branch_code, end_code, fuel_code, block_at, exit_code, return_code}
+use Rattle.native_code.specs.Layout.{code_length, distance, placed_from, offset_of, native_text}
 use Rattle.native_code.specs.Calls.{ArePlacesOf, spend, IsCallEnd, AgreesAt}
 use Rattle.native_code.proofs.Texts.{plain-length, length-append-code, placed-append, placed-plain, placed-length, Lies, lies-as, lies-front, lies-back}
 use Rattle.native_code.proofs.Texts.{offset-next, block-lies, block}
 use Rattle.native_code.proofs.Walking.{jumped, jumped-if}
 use Rattle.native_code.proofs.Reaching.{Reaches, reach-none, reach-both, reach-straight, reach-one}
 use Rattle.native_code.proofs.Leaving.{leaves}
-use Rattle.native_code.proofs.Fitting.{distance-fits, offset-small}
+use Rattle.native_code.proofs.Fitting.{distance-fits, plain-count, action-count, offset-small}
 
 -- ---- fuel in a register
 
@@ -92,6 +90,19 @@ agrees-wrote-fuel p call s x at w f places below a =
       untouched = λ q c none. other q (isnt is_callee_saved q FUEL c refl) ∙ a.untouched q c none;
       memory = a.memory;
     }
+
+-- ---- instructions are counted
+
+-- an action with nothing behind its sequence has one
+action-some : (p : Places) (e : Action) (jump : Option ℕ) → end_code p e jump ≡ [] → ((test : Test) → e ≡ actions.Branching test → ⊥) →
+    1 ≤ length (action_code p e)
+action-some p (actions.Compute to (Sum base disp)) jump none apart = omega arith
+action-some p (actions.Compute to (Applied op left right)) jump none apart = omega arith
+action-some p (actions.Load to base disp) jump none apart = omega arith
+action-some p (actions.LoadAround to base disp) jump none apart = omega arith
+action-some p (actions.Store from base disp) jump none apart = omega arith
+action-some p (actions.Branching test) jump none apart = absurd (apart test refl)
+action-some p actions.Return jump none apart = absurd cc
 
 -- ---- where a branch leads
 
@@ -138,6 +149,10 @@ module _ (p : Places) (metered : Bool) (code : List Insn) (ok : IsCode code) (of
   abbrev pub taking : Bool → List NativeInsn
   taking b = cond b (Plain (AluImm alu.Sub FUEL (pos 1)) ∷ GoIf Below (length code) ∷ []) []
 
+  pub taking-most : (b : Bool) → length (taking b) ≤ 2
+  taking-most true = omega arith
+  taking-most false = omega arith
+
   abbrev units : Bool → ℕ
   units b = cond b 1 0
 
@@ -181,15 +196,15 @@ module _ (p : Places) (metered : Bool) (code : List Insn) (ok : IsCode code) (of
         (flags-same took (cond b (offset (length code)) (x.at + 7 + 6)) took.flags took-agrees.machine)
 
     reach-decided : (b : Bool) → x.at + 13 < 2 ^ 31 → Lies text x.at (AluImm alu.Sub FUEL (pos 1) ∷ out ∷ []) → test_of Eq had 0 ≡ b →
-        Reaches text x (decided b)
+        Reaches text 2 x (decided b)
     reach-decided b near lies e =
-        let to-took : Reaches text x took = reach-one text x took (AluImm alu.Sub FUEL (pos 1)) (out ∷ []) take-insn lies refl in
+        let to-took : Reaches text 1 x took = reach-one text x took (AluImm alu.Sub FUEL (pos 1)) (out ∷ []) take-insn lies refl in
         let place : x.at + total_length (AluImm alu.Sub FUEL (pos 1) ∷ []) ≡ x.at + 7 = omega arith in
         let behind : Lies text took.at (out ∷ []) =
         subst (λ k. Lies text k (out ∷ [])) place (lies-back text x.at (AluImm alu.Sub FUEL (pos 1) ∷ []) (out ∷ []) lies) in
         let far : FitsSigned w32 (distance (x.at + 7 + 6) (offset (length code))) =
         jump-insn (x.at + 7 + 6) (length code) (omega (arith, near)) (omega arith) in
-        let to-end : Reaches text took (decided b) =
+        let to-end : Reaches text 1 took (decided b) =
         reach-one text took (decided b) out [] (record { widths = far; operands = refl }) behind
         (jumped-if took (x.at + 7 + 6) (offset (length code)) Below (alu_flags alu.Sub had 1) b refl (says.below ∙ e)) in
         reach-both text x took (decided b) to-took to-end
@@ -197,7 +212,7 @@ module _ (p : Places) (metered : Bool) (code : List Insn) (ok : IsCode code) (of
   -- Fuel is taken, if it is; then the sequence is next.
   pub record Charged (call : Call) (s : State) (x : X86) (b : Bool) : Type 0 where
     pub end : X86
-    pub reaches : Reaches text x end
+    pub reaches : Reaches text (length (taking b)) x end
     pub at : end.at ≡ x.at + code_length (taking b)
     pub agrees : Agrees p (spend call (units b)) s end
 
@@ -224,7 +239,7 @@ module _ (p : Places) (metered : Bool) (code : List Insn) (ok : IsCode code) (of
   pub record Spent (call : Call) (s : State) (x : X86) : Type 0 where
     pub end : X86
     pub fuel : ℕ
-    pub reaches : Reaches text x end
+    pub reaches : Reaches text 2 x end
     pub at : end.at ≡ offset (length code)
     pub agrees : Agrees p (record call { fuel = fuel }) s end
 
@@ -322,11 +337,36 @@ module _ (p : Places) (metered : Bool) (code : List Insn) (ok : IsCode code) (of
 
     -- ---- a step that moves
 
-    -- some number of steps leads from the sequence to the block of the next index
+    -- the next index, or the one that the instruction jumps to
+    abbrev pub IsNext : ℕ → Type 0
+    IsNext j = (j ≡ suc i) ⊎ (jump_of i insn ≡ Some j)
+
+    -- One or more steps lead from the sequence to the block of the next index: no more than there are instructions.
     pub record Moves (call : Call) (t : State) (x : X86) : Type 0 where
+      pub count : ℕ
+      pub some : 1 ≤ count
+      pub few : count ≤ length insns + length ending
+      pub brief : count ≤ 7
       pub end : X86
-      pub reaches : Reaches text x end
+      pub reaches : Reaches text count x end
+      pub next : IsNext t.index
       pub agrees : AgreesAt p metered code call t end
+
+    next-as : (j k : ℕ) → k ≡ j → IsNext j → IsNext k
+    next-as j k e h = subst IsNext (sym e) h
+
+    either-way : (target : ℕ) (b : Bool) → jump_of i insn ≡ Some target → IsNext (cond b target (suc i))
+    either-way target true leads = inr leads
+    either-way target false leads = inl refl
+
+    -- the instructions of the block
+    pub block-count : length (block p metered code i) ≡ length charging + (length insns + length ending)
+    block-count =
+        let b : length (block p metered code i) ≡ length (charging ++ (plain insns ++ ending)) = ap (λ o. length (block_at p metered code i o)) here in
+        let one = length-append charging (plain insns ++ ending) in
+        let two = length-append (plain insns) ending in
+        let three = plain-count insns in
+        omega (arith, b, one, two, three)
 
     module _ (call : Call) (s t : State) (x : X86) (state : IsState s) (lent : IsLent call s.rights) (at_index : s.index ≡ i) (at_middle : x.at ≡ middle)
         (agrees : Agrees p call s x)
@@ -335,19 +375,30 @@ module _ (p : Places) (metered : Bool) (code : List Insn) (ok : IsCode code) (of
         lie-here = subst (λ n. Lies text n insns) (sym at_middle) insns-lie
 
         -- the sequence, and nothing more
-        falls : ending ≡ [] → EndsInAgreement p call insns x t → t.index ≡ suc i → Moves call t x
-        falls none e index =
-            let reaches : Reaches text x e.end = reach-straight text insns x e.end lie-here (sequence-straight p insn places (ok.encoded i insn here)) e.runs in
+        falls : ending ≡ [] → 1 ≤ length insns → EndsInAgreement p call insns x t → t.index ≡ suc i → Moves call t x
+        falls none some e index =
+            let all = sequence-straight p insn places (ok.encoded i insn here) in
+            let reaches : Reaches text (length insns) x e.end = reach-straight text insns x e.end lie-here all e.runs in
             let a = e.at in
             let m = at_middle in
             let n = next-is in
             let no-more : code_length ending ≡ 0 = ap code_length none in
             let at_next : e.end.at ≡ offset (suc i) = omega (arith, a, m, n, no-more) in
-            record { end = e.end; reaches = reaches; agrees = record { at = at_next ∙ ap offset (sym index); agrees = e.agrees } }
+            record {
+              count = length insns;
+              some = some;
+              few = omega arith;
+              brief = let short = action-count p places (action_of insn) in omega (arith, short);
+              end = e.end;
+              reaches = reaches;
+              next = inl index;
+              agrees = record { at = at_next ∙ ap offset (sym index); agrees = e.agrees };
+            }
 
         -- the sequence of a branch that is always taken is empty
-        goes : (target : ℕ) → insns ≡ [] → ending ≡ Go target ∷ [] → target < length code → t ≡ record s { index = target } → Moves call t x
-        goes target none last low e =
+        goes : (target : ℕ) → insns ≡ [] → ending ≡ Go target ∷ [] → jump_of i insn ≡ Some target → target < length code → t ≡ record s { index = target } →
+            Moves call t x
+        goes target none last leads low e =
             let end : X86 = record x { at = offset target } in
             let at_after : x.at ≡ after = let m = at_middle in let z : total_length insns ≡ 0 = ap total_length none in omega (arith, m, z) in
             let jump : X86Insn = Jump (distance (x.at + 5) (offset target)) in
@@ -357,24 +408,32 @@ module _ (p : Places) (metered : Bool) (code : List Insn) (ok : IsCode code) (of
             (ap (placed_from offset after) last) ending-lies) in
             let far : FitsSigned w32 (distance (x.at + 5) (offset target)) =
             jump-insn (x.at + 5) target (let a = after-small in omega (arith, a, at_after)) (omega (arith, low)) in
-            let reaches : Reaches text x end =
+            let one : length ending ≡ 1 = ap length last in
+            let reaches : Reaches text 1 x end =
             reach-one text x end jump [] (record { widths = far; operands = refl }) lies (jumped x (x.at + 5) (offset target)) in
             let moved : Agrees p call (record s { index = target }) end =
             agrees-index p call places s target end
             (agrees-same p call s x end places agrees (flags-same x (offset target) x.flags agrees.machine)) in
             record {
+              count = 1;
+              some = omega arith;
+              few = omega (arith, one);
+              brief = omega arith;
               end = end;
               reaches = reaches;
+              next = next-as target t.index (ap (λ (u : State). u.index) e) (inr leads);
               agrees = subst (λ u. AgreesAt p metered code call u end) (sym e) (record { at = refl; agrees = moved });
             }
 
         -- a branch on a register
-        decides : (c : Cond) (r target : ℕ) → insns ≡ test_code p (When c r) → ending ≡ GoIf (branch_cond c) target ∷ [] → target < length code →
+        decides : (c : Cond) (r target : ℕ) → insns ≡ test_code p (When c r) → ending ≡ GoIf (branch_cond c) target ∷ [] → jump_of i insn ≡ Some target →
+            target < length code →
             DecidesBranch p call c r x s → t ≡ record s { index = cond (takes c (read_reg s.regs r)) target (suc i) } → Moves call t x
-        decides c r target seq last low d e =
+        decides c r target seq last leads low d e =
             let b : Bool = takes c (read_reg s.regs r) in
             let y : X86 = d.comes.end in
-            let to-y : Reaches text x y =
+            let one : length ending ≡ 1 = ap length last in
+            let to-y : Reaches text (length insns) x y =
             reach-straight text insns x y lie-here (sequence-straight p insn places (ok.encoded i insn here))
             (subst (λ l. x86_straight l x ≡ Some y) (sym seq) d.comes.runs) in
             let at_after : y.at ≡ after =
@@ -390,7 +449,7 @@ module _ (p : Places) (metered : Bool) (code : List Insn) (ok : IsCode code) (of
             let far : FitsSigned w32 (distance (y.at + 6) (offset target)) =
             jump-insn (y.at + 6) target (let a = after-small in omega (arith, a, at_after)) (omega (arith, low)) in
             let end : X86 = record y { at = cond b (offset target) (y.at + 6) } in
-            let to-end : Reaches text y end =
+            let to-end : Reaches text 1 y end =
             reach-one text y end jump [] (record { widths = far; operands = refl }) lies
             (jumped-if y (y.at + 6) (offset target) (branch_cond c) d.flags b d.set d.says) in
             let six : y.at + 6 ≡ offset (suc i) =
@@ -402,8 +461,13 @@ module _ (p : Places) (metered : Bool) (code : List Insn) (ok : IsCode code) (of
             agrees-index p call places s (cond b target (suc i)) end
             (agrees-same p call s y end places d.comes.agrees (flags-same y (cond b (offset target) (y.at + 6)) y.flags d.comes.agrees.machine)) in
             record {
+              count = length insns + 1;
+              some = omega arith;
+              few = omega (arith, one);
+              brief = let short = action-count p places (action_of insn) in omega (arith, short);
               end = end;
               reaches = reach-both text x y end to-y to-end;
+              next = next-as (cond b target (suc i)) t.index (ap (λ (u : State). u.index) e) (either-way target b leads);
               agrees = subst (λ u. AgreesAt p metered code call u end) (sym e) (record { at = place b; agrees = moved });
             }
 
@@ -447,7 +511,8 @@ module _ (p : Places) (metered : Bool) (code : List Insn) (ok : IsCode code) (of
             action_outcome e (jump_of i insn) s ≡ (moves.Moved, t) →
             Moves call t x
         straight-on e is none apart whole out_is =
-            falls (ap (λ a. end_code p a (jump_of i insn)) is ∙ none)
+            let some : 1 ≤ length (action_code p e) = action-some p e (jump_of i insn) none apart in
+            falls (ap (λ a. end_code p a (jump_of i insn)) is ∙ none) (subst (λ a. 1 ≤ length (action_code p a)) (sym is) some)
             (simulates p call insn s t x places (ok.encoded i insn here) (of.reads i insn here) state lent agrees whole)
             (next-index e (jump_of i insn) none apart out_is)
 
@@ -460,14 +525,14 @@ module _ (p : Places) (metered : Bool) (code : List Insn) (ok : IsCode code) (of
         moves-by (actions.Branching Always) is whole out_is =
             let to = branch-target (length code) i insn Always is (ok.inside i insn here) in
             goes to.0 (ap (action_code p) is)
-            (ap (λ a. end_code p a (jump_of i insn)) is ∙ ap (branch_code p Always) to.1)
+            (ap (λ a. end_code p a (jump_of i insn)) is ∙ ap (branch_code p Always) to.1) to.1
             to.2 (ap (λ (q : Step × State). q.1) (sym out_is) ∙ ap (state_at s) to.1)
         moves-by (actions.Branching (When c r)) is whole out_is =
             let to = branch-target (length code) i insn (When c r) is (ok.inside i insn here) in
             let there : IsSomewhere p r = subst (ReadsPlaced p) is (of.reads i insn here) in
             let b : Bool = takes c (read_reg s.regs r) in
             decides c r to.0 (ap (action_code p) is)
-            (ap (λ a. end_code p a (jump_of i insn)) is ∙ ap (branch_code p (When c r)) to.1)
+            (ap (λ a. end_code p a (jump_of i insn)) is ∙ ap (branch_code p (When c r)) to.1) to.1
             to.2 (tests p call c r s x places there state lent agrees)
             (ap (λ (q : Step × State). q.1) (sym out_is) ∙ ap (λ j. state_at s (cond b j (Some (s.index + 1)))) to.1 ∙ branched to.0 b)
         moves-by actions.Return is whole out_is = let wrong : moves.Returned ≡ moves.Moved = ap (λ q. q.0) out_is in absurd cc
@@ -479,9 +544,10 @@ module _ (p : Places) (metered : Bool) (code : List Insn) (ok : IsCode code) (of
 
         -- ---- a return
 
-        -- some number of steps ends the call, with the word of register 0
+        -- as many steps as there are instructions end the call, with the word of register 0
         pub record Ends : Type 0 where
           pub count : ℕ
+          pub all : count ≡ length ending
           pub end : X86
           pub left : x86_run text count x ≡ (outcomes.Left, end)
           pub returns : IsCallEnd call (slice_index s.regs 0) 0 s end
@@ -496,7 +562,7 @@ module _ (p : Places) (metered : Bool) (code : List Insn) (ok : IsCode code) (of
             subst (λ n. Lies text n (return_code p)) (sym at_after) (lies-as text after (placed_from offset after ending) (return_code p) last ending-lies) in
             let there : IsSomewhere p 0 = subst (ReadsPlaced p) is (of.reads i insn here) in
             let y : X86 = with_reg p call places s x state lent agrees 0 RAX in
-            let to-y : Reaches text x y =
+            let to-y : Reaches text 1 x y =
             reach-one text x y (fetch p 0 RAX) (exit_code p 0) (fetch-straight p places 0 RAX (omega arith) (omega arith)).insn lies
             (fetched p call places s x lent agrees 0 RAX (x.at + length_of (fetch p 0 RAX)) there) in
             let place : x.at + total_length (fetch p 0 RAX ∷ []) ≡ y.at = omega arith in
@@ -505,7 +571,10 @@ module _ (p : Places) (metered : Bool) (code : List Insn) (ok : IsCode code) (of
             let l =
             leaves p call s places lent y (with-agrees p call places s x state lent agrees 0 RAX (omega arith)) text (slice_index s.regs 0) 0 (omega arith)
             (with-reads p call places s x state lent agrees 0 RAX (omega arith)) behind in
-            record { count = to-y.count + l.count; end = l.end; left = to-y.runs l.count ∙ l.left; returns = l.returns }
+            let all : length ending ≡ length (plain (return_code p)) = ap (λ a. length (end_code p a (jump_of i insn))) is in
+            let same = plain-count (return_code p) in
+            let exit = l.all in
+            record { count = 1 + l.count; all = omega (arith, all, same, exit); end = l.end; left = to-y.runs l.count ∙ l.left; returns = l.returns }
 
         access-stays : (kind : Kind) (may : Bool) (a : ℕ) (u v : State) → access_outcome kind may a s u ≡ (moves.Returned, v) → ⊥
         access-stays kind true a u v e = let wrong : moves.Moved ≡ moves.Returned = ap (λ q. q.0) e in absurd cc

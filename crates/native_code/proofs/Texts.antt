@@ -1,5 +1,5 @@
 -- Where instructions stand in the text: lists of instructions, their bytes, and what is in front of a block.
-use Rattle.std.proofs.Common.{◌≡◌, ℕ, zero, suc, ◌+◌, ◌<◌, ◌≤◌, Bool, List, [], ◌∷◌, ◌++◌, map, length, slice_get, refl, sym, ap, ◌∙◌, subst, arith}
+use Rattle.std.proofs.Common.{◌≡◌, ℕ, zero, suc, ◌+◌, ◌<◌, ◌≤◌, Bool, List, [], ◌∷◌, ◌++◌, length, slice_get, refl, sym, ap, ◌∙◌, subst, arith}
 use Rattle.std.proofs.Common.{inl, inr, length-append}
 use Rattle.std.specs.List.{flat_map}
 use Rattle.std.proofs.lemmas.Bool.{cases_eq}
@@ -8,7 +8,6 @@ use Rattle.std.proofs.lemmas.Grind.{flat_map-append}
 use Rattle.alpha_words.specs.declared.insn.Insn.{Insn}
 use Rattle.x86_words.specs.declared.insn.X86Insn.{X86Insn}
 use Rattle.x86_words.specs.Encoding.{bytes_of, length_of, IsX86Insn}
-use Rattle.x86_words.specs.Decoding.{BeginsWith}
 use Rattle.x86_words.proofs.Fronts.{length-bytes_of}
 use Rattle.x86_machine.specs.Machine.{StandsAtOffset}
 use Rattle.native_steps.specs.Places.{Places}

@@ -1,24 +1,22 @@
 -- Runs of the text over instructions that go straight on, and over a jump.
-use Rattle.std.proofs.Common.{◌≡◌, ℕ, suc, ◌+◌, Bool, true, false, cond, List, [], ◌∷◌, length, slice_index, Option, Some, None, ℤ}
-use Rattle.std.proofs.Common.{pos, ◌+ℤ◌, ◌-ℤ◌, All, refl, sym, ap, ◌∙◌, subst, arith}
+use Rattle.std.proofs.Common.{◌≡◌, ℕ, suc, ◌+◌, Bool, true, false, cond, List, [], ◌∷◌, length, slice_index, Option, Some, None}
+use Rattle.std.proofs.Common.{pos, ◌-ℤ◌, All, refl, ap, ◌∙◌, subst, arith}
 use Rattle.std.proofs.Math.IntN.{+ℤ_comm, -ℤ-+ℤ_cancel}
 use Rattle.std.proofs.lemmas.List.Elements.{All-head, All-tail}
 use Rattle.word_ops.specs.Memory.{read, write}
 use Rattle.word_ops.specs.Rights.{allowed}
 use Rattle.x86_words.specs.declared.operators.X86Cond.{X86Cond}
 use Rattle.x86_words.specs.declared.insn.X86Insn.{X86Insn}
-use Rattle.x86_words.specs.declared.insn.X86Insn.TheVariants.{Mov, MovImm, MovZero, MovAbs, Load, Store, Alu, AluImm, AluLoad, Lea, LeaScaled}
-use Rattle.x86_words.specs.declared.insn.X86Insn.TheVariants.{ShiftImm, ShiftCl, Not, Test, TestImm, Set, MovByte, MovTwo, MovFour, JumpIf, Jump, Ret}
-use Rattle.x86_words.specs.declared.insn.X86Insn.TheVariants.{Nop}
+use Rattle.x86_words.specs.declared.insn.X86Insn.TheVariants.{Load, Store, AluLoad}
+use Rattle.x86_words.specs.declared.insn.X86Insn.TheVariants.{Set, JumpIf, Jump, Ret}
 use Rattle.x86_words.specs.Encoding.{length_of, IsX86Insn}
 use Rattle.x86_machine.specs.declared.flags.Flags.{Flags}
 use Rattle.x86_machine.specs.declared.outcome.X86Step.{X86Step}
 use Rattle.x86_machine.specs.declared.outcome.X86Step.TheVariants as steps
 use Rattle.x86_machine.specs.declared.outcome.X86Outcome.{X86Outcome}
-use Rattle.x86_machine.specs.declared.outcome.X86Outcome.TheVariants as outcomes
 use Rattle.x86_machine.specs.Flags.{cond_holds}
 use Rattle.x86_machine.specs.Machine.{X86, with_low_byte, disp_address, puts, operates, asks, jumps, code_offset, jump_offset}
-use Rattle.x86_machine.specs.Machine.{x86_outcome, fetched, x86_step_at, x86_ends_with, x86_run}
+use Rattle.x86_machine.specs.Machine.{x86_outcome, x86_step_at, x86_ends_with, x86_run}
 use Rattle.x86_machine.proofs.Standing.{stands}
 use Rattle.native_steps.specs.Straight.{after_move, x86_straight, total_length, falls_through, IsStraight}
 use Rattle.native_code.specs.Layout.{distance}

@@ -1,7 +1,7 @@
 -- What native code consists of: an entry, a block for each Alpha instruction, and an end for runs that are out of fuel.
 -- System V Application Binary Interface, AMD64 Architecture Processor Supplement, section 3.2.1 and figure 3.4: which registers a function
 -- leaves as they were; section 3.2.3: in which registers arguments and results are passed.
-use Rattle.std.specs.Prelude.{ℕ, zero, suc, ◌+◌, Bool, ◌&&◌, ◌||◌, ◌==◌, if◌then◌else◌, List, [], ◌∷◌, ◌++◌, map, length, slice_get, Option, Some, None, pos}
+use Rattle.std.specs.Prelude.{ℕ, zero, suc, Bool, ◌&&◌, ◌||◌, ◌==◌, if◌then◌else◌, List, [], ◌∷◌, ◌++◌, map, length, slice_get, Option, Some, None, pos}
 use Rattle.alpha_words.specs.declared.insn.Insn.{Insn}
 use Rattle.alpha_cfg.specs.Actions.{Test, Always, When, Action, action_of}
 use Rattle.alpha_cfg.specs.Actions as actions

@@ -1,6 +1,6 @@
 -- What a call of native code does, beside what the Alpha code does.
 -- System V Application Binary Interface, AMD64 Architecture Processor Supplement, section 3.2.3, "Parameter Passing".
-use Rattle.std.specs.Prelude.{◌≡◌, ℕ, ◌-◌, ◌<◌, ◌≤◌, Bool, true, false, if◌then◌else◌, List, slice_get, slice_index, Some}
+use Rattle.std.specs.Prelude.{◌≡◌, ℕ, ◌-◌, ◌<◌, ◌≤◌, Bool, true, false, List, slice_get, slice_index, Some}
 use Rattle.word_ops.specs.Memory.{read}
 use Rattle.word_ops.specs.Rights.{in_span}
 use Rattle.alpha_words.specs.declared.insn.Insn.{Insn}
@@ -14,7 +14,7 @@ use Rattle.x86_machine.specs.Machine.{X86, IsX86, x86_run}
 use Rattle.native_steps.specs.Places.{Places, ArePlaces, is_callee_saved, RAX, RCX, FUEL}
 use Rattle.native_steps.specs.Sequences.{ReadsPlaced}
 use Rattle.native_steps.specs.Agreement.{Call, area_span, native_rights, IsLent, Agrees}
-use Rattle.native_code.specs.Heads.{arrivals}
+use Rattle.native_code.specs.Heads.{arrivals, fuel_of}
 use Rattle.native_code.specs.Blocks.{is_argument, RDX, RSI, RDI}
 use Rattle.native_code.specs.Layout.{offset_of, native_text}
 
@@ -56,10 +56,6 @@ module _ (p : Places) (metered : Bool) (code : List Insn) where
     pub at : x.at ≡ offset_of p metered code s.index
     pub agrees : Agrees p call s x
 
-  -- the fuel that so many steps take
-  abbrev pub fuel_of : ℕ → State → ℕ
-  fuel_of n s = if metered then arrivals code n s else 0
-
   -- Some number of steps leads to a state that agrees.
   pub record Comes (call : Call) (s : State) (x : X86) : Type 0 where
     pub count : ℕ
@@ -89,8 +85,8 @@ Called = (p : Places) (metered : Bool) (code : List Insn) (call : Call) (s : Sta
 -- returned, the call has ended with its word.
 abbrev pub SimulatesRuns : Type 0
 SimulatesRuns = (p : Places) (metered : Bool) (code : List Insn) (call : Call) (n : ℕ) (s : State) (x : X86) → IsCode code → ArePlacesOf p code → IsState s
-    → IsLent call s.rights → AgreesAt p metered code call s x → fuel_of p metered code n s ≤ call.fuel
-    → Follows p metered code call (fuel_of p metered code n s) (run_of code n s) x
+    → IsLent call s.rights → AgreesAt p metered code call s x → fuel_of metered code n s ≤ call.fuel
+    → Follows p metered code call (fuel_of metered code n s) (run_of code n s) x
 
 -- If an Alpha run arrives at more loop heads than there is fuel, the call ends, at one of its states: rax is 0, and rdx is 1.
 abbrev pub Spends : Type 0

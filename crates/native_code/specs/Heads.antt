@@ -39,3 +39,7 @@ arrivals code zero s = 0
 arrivals code (suc n) s =
     let step = step_of code s in
     (if is_loop_head code s.index then 1 else 0) + if_moved step.0 (arrivals code n step.1)
+
+-- the fuel that so many steps take, if it is counted
+abbrev pub fuel_of : Bool → List Insn → ℕ → State → ℕ
+fuel_of metered code n s = if metered then arrivals code n s else 0

@@ -2,3 +2,4 @@ pub mod Heads
 pub mod Blocks
 pub mod Layout
 pub mod Calls
+pub mod Ends
