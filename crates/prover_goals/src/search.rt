@@ -4,7 +4,7 @@ ghost use Rattle.std.specs.Prelude.{◌≡◌, ◌+◌, ◌*◌, ◌^◌, ◌≤
 ghost use Rattle.term_table.specs.Table.{TableView, IsKnown, Extends};
 ghost use Rattle.prover_ids.specs.Hypotheses.{AreKnownHyps};
 ghost use Rattle.prover_goals.specs.Answers.{IsFoundProof};
-ghost use Rattle.hereditary_subst.specs.Limits.{left_of, results_of, Counts};
+ghost use Rattle.hereditary_subst.specs.Limits.{left_of, results_of, Counts, Spends};
 ghost use Rattle.prover_goals.specs.Search.{IsSearch, IsContext, IsAfter, uncounted};
 
 use crate::answers::{Answers, Means, question_of};
@@ -148,6 +148,7 @@ fn keep_row(
         IsFoundProof table.now c.hyps c.outside means goal proof }
     ensures same { IfOk result (λ o. o ≡ proof) }
     ensures after { OnOk result (IsAfter table.now search.new context.old context.new) }
+    ensures spends { Spends table.now search.old.memo search.new.memo result }
 {
     let question = question_of(means, context.outside, goal);
     let hyps = context.hyps.as_slice();
@@ -182,6 +183,7 @@ pub(crate) fn keep_answer(
         IsFoundProof table.now c.hyps c.outside means goal proof }
     ensures same { IfOk result (λ o. o ≡ proof) }
     ensures after { OnOk result (IsAfter table.now search.new context.old context.new) }
+    ensures spends { Spends table.now search.old.memo search.new.memo result }
 {
     search.spend_terms(table)?;
     keep_row(table, search, context, means, goal, proof)
