@@ -23,7 +23,7 @@ reduce_at-returns-in_default t c =
       tree = λ acc. reduce_other (erase (tree_at t₀ c.args.u)) (tree_at t₀ c.args.g) (tree_at t₀ c.args.b) acc (no_lam c.node.result t₀ (tree_at t₀ c.args.g) c.node.ensures.tree c.in_default.not-Lam);
       extends = search rules;
       memo = c.requires.memo;
-      left = omega arith;
+      spends = (refl, omega arith, search rules);
     }
 
 pub subst_under-returns-in-Some-clause-tree : goal.subst_under-returns-in-Some-clause-tree
