@@ -5,7 +5,7 @@ ghost use Rattle.term_table.specs.Tree.{App, Lam, Var};
 ghost use Rattle.term_table.specs.Scope.{is_scoped};
 ghost use Rattle.term_table.specs.Table.{TableView, IsKnown, tree_at};
 ghost use Rattle.hereditary_subst.specs.Kept.{IsMemo};
-ghost use Rattle.hereditary_subst.specs.Limits.{left_of, Spends};
+ghost use Rattle.hereditary_subst.specs.Limits.{left_of, Spends, charge};
 ghost use Rattle.lf_encode.specs.PutTree.{machine_terms_at, put_for, put_tree};
 ghost use Rattle.lf_encode.specs.Kept.{AreMachineTerms};
 ghost use Rattle.vcgen.specs.Symbols.{ids_of};
@@ -67,7 +67,7 @@ impl Uses {
         requires uses { AreUses table.now self.old }
         requires row { IsRow table.now place lacks }
         ensures shifts { IsMemo table.now shifts.new }
-        ensures left { OnOk result (left_of shifts.old ≡ left_of shifts.new + 1) }
+        ensures left { OnOk result (left_of shifts.old ≡ left_of shifts.new + charge shifts.old 1) }
         ensures uses { AreUses table.now self.new }
         ensures spends { Spends table.now shifts.old shifts.new result }
     {

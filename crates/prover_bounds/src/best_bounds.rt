@@ -6,7 +6,7 @@
 ghost use Rattle.std.specs.Prelude.{◌≡◌, ◌≤◌, ◌+◌, true, IfOk, OnOk, length};
 ghost use Rattle.term_table.specs.Table.{IsKnown, tree_at, Extends};
 ghost use Rattle.hereditary_subst.specs.Kept.{IsMemo};
-ghost use Rattle.hereditary_subst.specs.Limits.{left_of, results_of, Spends};
+ghost use Rattle.hereditary_subst.specs.Limits.{left_of, results_of, Spends, charge};
 ghost use Rattle.formula_tree.specs.Formulas.{Exp};
 ghost use Rattle.lf_terms.specs.Encoding.{exp_encoding};
 ghost use Rattle.prover_ids.specs.Hypotheses.{AreKnownHyps, AreHyps};
@@ -78,8 +78,8 @@ fn choice_anew(
         → tree_at table.now e ≡ exp_encoding x
         → IfOk result (IsChoice side Γ x (bound_from side Γ x)) }
     ensures memo { IsMemo table.now memo.new }
-    ensures left { let steps = length hyps.now in
-        OnOk result (left_of memo.new + results_of steps ≤ left_of memo.old) }
+    ensures left { let counted = charge memo.old (results_of (length hyps.now)) in
+        OnOk result (left_of memo.new + counted ≤ left_of memo.old) }
     ensures kept { IfOk result (λ _. AreBounds table.now hyps.now kept.new) }
     ensures spends { Spends table.now memo.old memo.new result }
 {

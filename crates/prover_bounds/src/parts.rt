@@ -5,7 +5,7 @@
 ghost use Rattle.std.specs.Prelude.{◌≡◌, ◌<◌, ◌≤◌, IfOk, IfSome, OnOk};
 ghost use Rattle.term_table.specs.Table.{IsKnown, tree_at, Extends};
 ghost use Rattle.hereditary_subst.specs.Kept.{IsMemo};
-ghost use Rattle.hereditary_subst.specs.Limits.{Spends};
+ghost use Rattle.hereditary_subst.specs.Limits.{Spends, NeverResults};
 ghost use Rattle.formula_tree.specs.Formulas.{Exp, ELit};
 ghost use Rattle.lf_terms.specs.Encoding.{exp_encoding};
 ghost use Rattle.prover_bounds.specs.BoundIds.{IsWordBound, bound_by_ids};
@@ -109,6 +109,7 @@ pub(crate) fn limit(table: &mut Table, side: Side, e: Id) -> Result<Bound, Exhau
     ensures is { (x : Exp) → tree_at table.old e ≡ exp_encoding x
         → IfOk result (IsWordBound table.new (limit side x)) }
     ensures extends { Extends table.old table.new }
+    ensures memory { NeverResults result }
 {
     match side {
         Side::Upper => {
@@ -132,6 +133,7 @@ fn by_word(table: &mut Table, e: Id, w: u64) -> Result<Bound, Exhausted>
     ensures is { tree_at table.old e ≡ exp_encoding (ELit w)
         → IfOk result (IsWordBound table.new (by_word w)) }
     ensures extends { Extends table.old table.new }
+    ensures memory { NeverResults result }
 {
     let proof = rule_term(table, ULE_REFL, &[e])?;
     Ok(Bound { value: w, proof })
@@ -144,6 +146,7 @@ pub(crate) fn by_itself(table: &mut Table, side: Side, e: Id) -> Result<Bound, E
     ensures is { (x : Exp) → tree_at table.old e ≡ exp_encoding x
         → IfOk result (IsWordBound table.new (by_itself side x)) }
     ensures extends { Extends table.old table.new }
+    ensures memory { NeverResults result }
 {
     match literal(table, e) {
         None => limit(table, side, e),
@@ -189,6 +192,7 @@ pub(crate) fn by_ceiling(
         → tree_at table.old b ≡ exp_encoding y
         → IfOk result (IsWordBound table.new (by_ceiling ceiling x y)) }
     ensures extends { Extends table.old table.new }
+    ensures memory { NeverResults result }
 {
     let proof = rule_term(table, ceiling.rule, &[a, b])?;
     Ok(Bound {
@@ -219,6 +223,7 @@ pub(crate) fn by_side(
         → tree_at table.old side ≡ exp_encoding s → IfOk result
         (IsWordBound table.new (by_side number x y z s (bound_by_ids table.old w))) }
     ensures extends { Extends table.old table.new }
+    ensures memory { NeverResults result }
 {
     let least = rule_term(table, number, &[a, b])?;
     let value = word(table, w.value)?;

@@ -4,7 +4,7 @@ ghost use Rattle.std.specs.Prelude.{◌≡◌, ◌≤◌, IfOk, drop, OnOk};
 ghost use Rattle.term_table.specs.Tree.{Tree};
 ghost use Rattle.term_table.specs.Table.{IsKnown, tree_at, Extends};
 ghost use Rattle.hereditary_subst.specs.Kept.{IsMemo};
-ghost use Rattle.hereditary_subst.specs.Limits.{Spends};
+ghost use Rattle.hereditary_subst.specs.Limits.{Spends, NeverResults};
 ghost use Rattle.word_ops.specs.declared.Rel.TheVariants.{Ult};
 ghost use Rattle.formula_tree.specs.Formulas.{Exp, ELit, Form, FRel};
 ghost use Rattle.lf_terms.specs.Encoding.{exp_encoding, form_encoding};
@@ -175,6 +175,7 @@ fn by_more(table: &mut Table, e: Id, w: u64, word: Id, proof: Id) -> Result<Boun
         → tree_at table.old word ≡ exp_encoding (ELit w)
         → IfOk result (IsWordBound table.new (by_more x w (tree_at table.old proof))) }
     ensures extends { Extends table.old table.new }
+    ensures memory { NeverResults result }
 {
     let bound = rule_term(table, ULT_ULE, &[word, e, proof])?;
     Ok(Bound {

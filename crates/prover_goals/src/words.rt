@@ -18,7 +18,7 @@ ghost use Rattle.prover_sums.specs.NormalForms.{IsKnownRewritten, IsRewritten};
 ghost use Rattle.prover_goals.specs.Provers.{IsProofBy};
 ghost use Rattle.prover_goals.specs.Search.{IsSearch, IsContext, IsAfter};
 ghost use Rattle.prover_goals.specs.Inside.Words.{at_most_tree, less_tree, IsRelationProof, IsBoundsProof, IsAlignedPart};
-ghost use Rattle.hereditary_subst.specs.Limits.{Spends};
+ghost use Rattle.hereditary_subst.specs.Limits.{Spends, NeverResults};
 
 use crate::search::{Context, Search};
 use hereditary_subst::Exhausted;
@@ -84,6 +84,7 @@ fn ule_by(table: &mut Table, a: Id, b: Id, v: Bound, w: Bound) -> Result<Option<
         → tree_at table.old b ≡ exp_encoding y → IfOk result (Stands table.new
         (ule_by x y (bound_by_ids table.old v) (bound_by_ids table.old w))) }
     ensures extends { Extends table.old table.new }
+    ensures memory { NeverResults result }
 {
     if v.value <= w.value {
         let proof = at_most_tree(table, a, b, v, w)?;
@@ -104,6 +105,7 @@ fn ult_by(table: &mut Table, a: Id, b: Id, v: Bound, w: Bound) -> Result<Option<
         → tree_at table.old b ≡ exp_encoding y → IfOk result (Stands table.new
         (ult_by x y (bound_by_ids table.old v) (bound_by_ids table.old w))) }
     ensures extends { Extends table.old table.new }
+    ensures memory { NeverResults result }
 {
     if v.value < w.value {
         let proof = less_tree(table, a, b, v, w)?;

@@ -5,7 +5,7 @@
 ghost use Rattle.std.specs.Prelude.{◌≡◌, ◌<◌, ℕ, IfOk, List};
 ghost use Rattle.term_table.specs.Table.{IsKnown, tree_at, Extends};
 ghost use Rattle.hereditary_subst.specs.Kept.{IsMemo};
-ghost use Rattle.hereditary_subst.specs.Limits.{Spends};
+ghost use Rattle.hereditary_subst.specs.Limits.{Spends, NeverResults};
 ghost use Rattle.word_ops.specs.Words.{word_of};
 ghost use Rattle.word_ops.specs.declared.Op.TheVariants.{Add};
 ghost use Rattle.formula_tree.specs.Formulas.{Exp, ELit, EOp};
@@ -75,6 +75,7 @@ fn whole(table: &mut Table, from: Id, to: Id, proof: Id) -> Result<Rewrite, Exha
         → tree_at table.old to ≡ exp_encoding g
         → IfOk result (λ s. IsRewrite table.new s (whole_of f g (tree_at table.old proof))) }
     ensures extends { Extends table.old table.new }
+    ensures memory { NeverResults result }
 {
     let into = table.intern(Node::Var(0))?;
     Ok(Rewrite {
@@ -94,6 +95,7 @@ fn to_value(table: &mut Table, e: Id, op: Op, v: u64, w: u64) -> Result<Rewrite,
         → IfOk result (λ s.
         IsRewrite table.new s (whole_of f (ELit (word_of op v w)) (calc op v w))) }
     ensures extends { Extends table.old table.new }
+    ensures memory { NeverResults result }
 {
     let value = value_of(table, op, v, w)?;
     let proof = calc(table, op, v, w)?;
@@ -110,6 +112,7 @@ fn to_sum(table: &mut Table, e: Id, a: Id, b: Id) -> Result<Rewrite, Exhausted>
         → tree_at table.old a ≡ exp_encoding x → tree_at table.old b ≡ exp_encoding y
         → IfOk result (λ s. IsRewrite table.new s (negated_of f x y)) }
     ensures extends { Extends table.old table.new }
+    ensures memory { NeverResults result }
 {
     let sum = negated_sum(table, a, b)?;
     let proof = rule_term(table, SUB_NEG, &[a, b])?;
@@ -134,6 +137,7 @@ fn to_scaled(
         → tree_at table.old a ≡ exp_encoding x → tree_at table.old b ≡ exp_encoding y
         → IfOk result (λ s. IsRewrite table.new s (scaled_of number count f x y)) }
     ensures extends { Extends table.old table.new }
+    ensures memory { NeverResults result }
 {
     let sum = scaled_sum(table, a, b, count)?;
     let proof = rule_term(table, number, &[a, b])?;
@@ -150,6 +154,7 @@ fn to_complement(table: &mut Table, e: Id, a: Id, b: Id) -> Result<Rewrite, Exha
         → tree_at table.old a ≡ exp_encoding x → tree_at table.old b ≡ exp_encoding y
         → IfOk result (λ s. IsRewrite table.new s (complemented_of f x y)) }
     ensures extends { Extends table.old table.new }
+    ensures memory { NeverResults result }
 {
     let masked = cleared_bits(table, a, b)?;
     let proof = rule_term(table, BIC_DEF, &[a, b])?;
@@ -165,6 +170,7 @@ fn to_zero(table: &mut Table, e: Id, a: Id) -> Result<Rewrite, Exhausted>
         → tree_at table.old a ≡ exp_encoding x
         → IfOk result (λ s. IsRewrite table.new s (cancelled_of f x)) }
     ensures extends { Extends table.old table.new }
+    ensures memory { NeverResults result }
 {
     let zero = zero_word(table)?;
     let proof = rule_term(table, XOR_SELF, &[a])?;
@@ -180,6 +186,7 @@ fn to_operand(table: &mut Table, e: Id, a: Id, number: u32) -> Result<Rewrite, E
         → tree_at table.old a ≡ exp_encoding x
         → IfOk result (λ s. IsRewrite table.new s (operand_of number f x)) }
     ensures extends { Extends table.old table.new }
+    ensures memory { NeverResults result }
 {
     let proof = rule_term(table, number, &[a])?;
     whole(table, e, a, proof)
@@ -197,6 +204,7 @@ fn regrouped(table: &mut Table, e: Id, a: Id, b: Id, c: Id) -> Result<Rewrite, E
         → tree_at table.old c ≡ exp_encoding z
         → IfOk result (λ s. IsRewrite table.new s (regrouped_of f x y z)) }
     ensures extends { Extends table.old table.new }
+    ensures memory { NeverResults result }
 {
     let sum = regrouped_sum(table, a, b, c)?;
     let proof = rule_term(table, ADD_ASSOC, &[a, b, c])?;
@@ -213,6 +221,7 @@ fn commuted(table: &mut Table, e: Id, a: Id, b: Id) -> Result<Rewrite, Exhausted
         → tree_at table.old a ≡ exp_encoding x → tree_at table.old b ≡ exp_encoding y
         → IfOk result (λ s. IsRewrite table.new s (commuted_of f x y)) }
     ensures extends { Extends table.old table.new }
+    ensures memory { NeverResults result }
 {
     let sum = swapped_sum(table, a, b)?;
     let proof = rule_term(table, ADD_COMM, &[a, b])?;
@@ -301,6 +310,7 @@ fn under_left(
         → tree_at table.old above ≡ exp_encoding (up y) → IsRewrite table.old step s
         → IfOk result (λ r. IsRewrite table.new r (left_rewriting op y s)) }
     ensures extends { Extends table.old table.new }
+    ensures memory { NeverResults result }
 {
     let into = oper(table, op, step.into, above)?;
     let after = oper(table, op, step.after, right)?;
@@ -329,6 +339,7 @@ fn under_right(
         → tree_at table.old above ≡ exp_encoding (up y) → IsRewrite table.old step s
         → IfOk result (λ r. IsRewrite table.new r (right_rewriting op y s)) }
     ensures extends { Extends table.old table.new }
+    ensures memory { NeverResults result }
 {
     let into = oper(table, op, above, step.into)?;
     let after = oper(table, op, left, step.after)?;

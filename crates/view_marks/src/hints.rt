@@ -21,7 +21,7 @@ ghost use Rattle.view_marks.specs.declared.marking.TheConstants.{PART_BINDERS};
 ghost use Rattle.view_marks.specs.Hints.{known_hyps, missing_part, Bounds, hint_of};
 ghost use Rattle.view_marks.specs.Answers.{IsHint, IsKnownHint, IsMissing, IsKnownMissing};
 ghost use Rattle.view_marks.specs.Inside.Nearness.{access_at};
-ghost use Rattle.hereditary_subst.specs.Limits.{Spends};
+ghost use Rattle.hereditary_subst.specs.Limits.{Spends, NeverResults};
 
 use crate::PART_BINDERS;
 use crate::nearness::near;
@@ -67,6 +67,7 @@ fn add_formula(table: &mut Table, hyps: &mut Hypotheses, k: u32, form: Id) -> Re
         → tree_at table.old form ≡ form_encoding F → OnOk result
         (AreHyps table.new hyps.new (with_new Γ (split_hyps F (Var k)))) }
     ensures extends { Extends table.old table.new }
+    ensures memory { NeverResults result }
 {
     let proof = table.intern(Node::Var(k))?;
     add_split(table, hyps, form, proof)?;
@@ -80,6 +81,7 @@ fn hypotheses_of(table: &mut Table, known: &[Id]) -> Result<Hypotheses, Exhauste
     ensures exact { (Fs : List Form) → map (tree_at table.old) known.now ≡ map form_encoding Fs
         → IfOk result (λ hyps. AreHyps table.new hyps (known_hyps [] 0 Fs)) }
     ensures extends { Extends table.old table.new }
+    ensures memory { NeverResults result }
 {
     let mut hyps = Hypotheses::new(table.allocator());
     for i in 0..known.len() {
