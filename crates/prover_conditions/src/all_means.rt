@@ -21,6 +21,7 @@ pub(crate) struct ByAllMeans {
 
 impl Leaf for ByAllMeans {
     ghost use Rattle.prover_goals.specs.Provers.{all_means};
+ghost use Rattle.hereditary_subst.specs.Limits.{Spends};
 
     ghost by = { λ leaf. all_means leaf.counted };
 
@@ -59,6 +60,7 @@ fn by_all_means(
         IfOk result (IsProofBy p table.old table.new c.hyps c.outside goal) }
     ensures extends { Extends table.old table.new }
     ensures after { OnOk result (IsAfter table.new search.new context.old context.new) }
+    ensures spends { Spends table.new search.old.memo search.new.memo result }
 {
     match proof_by_words(table, search, context, counted, goal)? {
         Some(proof) => Ok(Some(proof)),
@@ -88,6 +90,7 @@ pub fn proof_by_all_means(
         IfOk result (IsProofBy p table.old table.new c.hyps c.outside goal) }
     ensures extends { Extends table.old table.new }
     ensures after { OnOk result (IsAfter table.new search.new context.old context.new) }
+    ensures spends { Spends table.new search.old.memo search.new.memo result }
 {
     goal_proof(table, &ByAllMeans { counted }, search, context, goal)
 }

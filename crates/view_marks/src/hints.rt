@@ -21,6 +21,7 @@ ghost use Rattle.view_marks.specs.declared.marking.TheConstants.{PART_BINDERS};
 ghost use Rattle.view_marks.specs.Hints.{known_hyps, missing_part, Bounds, hint_of};
 ghost use Rattle.view_marks.specs.Answers.{IsHint, IsKnownHint, IsMissing, IsKnownMissing};
 ghost use Rattle.view_marks.specs.Inside.Nearness.{access_at};
+ghost use Rattle.hereditary_subst.specs.Limits.{Spends, NeverResults};
 
 use crate::PART_BINDERS;
 use crate::nearness::near;
@@ -66,6 +67,7 @@ fn add_formula(table: &mut Table, hyps: &mut Hypotheses, k: u32, form: Id) -> Re
         → tree_at table.old form ≡ form_encoding F → OnOk result
         (AreHyps table.new hyps.new (with_new Γ (split_hyps F (Var k)))) }
     ensures extends { Extends table.old table.new }
+    ensures memory { NeverResults result }
 {
     let proof = table.intern(Node::Var(k))?;
     add_split(table, hyps, form, proof)?;
@@ -79,6 +81,7 @@ fn hypotheses_of(table: &mut Table, known: &[Id]) -> Result<Hypotheses, Exhauste
     ensures exact { (Fs : List Form) → map (tree_at table.old) known.now ≡ map form_encoding Fs
         → IfOk result (λ hyps. AreHyps table.new hyps (known_hyps [] 0 Fs)) }
     ensures extends { Extends table.old table.new }
+    ensures memory { NeverResults result }
 {
     let mut hyps = Hypotheses::new(table.allocator());
     for i in 0..known.len() {
@@ -109,6 +112,7 @@ fn missing_part(
         tree_at table.new id ≡ form_encoding (missing_part counted Γ A)) }
     ensures extends { Extends table.old table.new }
     ensures after { OnOk result (IsAfter table.new search.new context.old context.new) }
+    ensures spends { Spends table.new search.old.memo search.new.memo result }
 {
     match form_node(table, goal) {
         FormNode::And(a, b) => {
@@ -152,6 +156,7 @@ fn bounds_hint(
         → IfOk result (IsHint table.now
         (Bounds (upper_bound Γ x).value (lower_bound counted Γ y).value)) }
     ensures search { OnOk result (IsSearch table.now search.new) }
+    ensures spends { Spends table.now search.old.memo search.new.memo result }
 {
     let mut kept = KeptBounds::new(table.allocator());
     let hyps = context.hyps.as_slice();
@@ -180,6 +185,7 @@ fn relation_hint(
         → tree_at table.now a ≡ exp_encoding x → tree_at table.now b ≡ exp_encoding y
         → IfOk result (IsHint table.now (hint_of counted Γ (FRel rel x y))) }
     ensures search { OnOk result (IsSearch table.now search.new) }
+    ensures spends { Spends table.now search.old.memo search.new.memo result }
 {
     match rel {
         Rel::Ult => bounds_hint(table, search, context, counted, a, b),
@@ -218,6 +224,7 @@ fn hint_of(
         → IfOk result (IsHint table.new (hint_of counted Γ A)) }
     ensures extends { Extends table.old table.new }
     ensures search { OnOk result (IsSearch table.new search.new) }
+    ensures spends { Spends table.new search.old.memo search.new.memo result }
 {
     match form_node(table, part) {
         FormNode::Relation(rel, a, b) => {
@@ -264,6 +271,7 @@ pub fn missing_of(
     ensures known { IfOk result (IsKnownMissing table.new) }
     ensures extends { Extends table.old table.new }
     ensures search { OnOk result (IsSearch table.new search.new) }
+    ensures spends { Spends table.new search.old.memo search.new.memo result }
 {
     let hyps = hypotheses_of(table, known)?;
     let mut context = Context::new(table, PART_BINDERS, hyps)?;
