@@ -1,4 +1,4 @@
-use Rattle.std.proofs.Common.{rules, true, false, not, ◌&&◌, ◌≡◌, ◌+◌, ◌<◌, [], ◌∷◌, ◌++◌, ℕ, List, length, map, drop, is_some, sym, ◌∙◌, ap, subst, arith}
+use Rattle.std.proofs.Common.{rules, true, false, not, ◌&&◌, ◌≡◌, ◌+◌, ◌<◌, [], ◌∷◌, ◌++◌, ℕ, List, length, map, drop, is_some, refl, sym, ◌∙◌, ap, subst, arith}
 use Rattle.std.specs.Prelude.{slice_index_or}
 use Rattle.std.proofs.lemmas.List.{drop_more}
 use Rattle.term_table.specs.Tree.{Tree}
@@ -25,6 +25,8 @@ loop-index-init c =
       lines = c.requires.lines;
       ids = subst (AllKnown t) (sym items) (c.requires.start, tt);
       search = c.requires.search;
+      limited = refl;
+      left = omega arith;
       exact = λ known views. (
         subst (λ (l : List ℕ). AreFormTerms (map (tree_at t) l)) (sym items) known,
         ap (λ (l : List ℕ). map (line_view t) c.args.lines.now.items
@@ -86,6 +88,8 @@ loop-index-preserved c =
       lines = c.in_ok-push_row_lines.ensures.known;
       ids = c.in_ok-learn.ensures.known;
       search = c.in_ok-push_row_lines.ensures.search;
+      limited = c.in_ok-push_row_lines.ensures.spends.0 ∙ inv.limited;
+      left = omega (arith, c.in_ok-push_row_lines.ensures.spends.1, inv.left);
       exact = λ first views.
           let so_far = inv.exact first views in
           let row : IsFormRow r = subst (λ (y : Row). IsFormRow (row_view t y)) (sym at_index) (form-at t rows i x views lt) in

@@ -1,5 +1,6 @@
 use Rattle.std.proofs.Common.{◌≡◌, ◌≤◌, [], ◌∷◌, ◌++◌, map, drop, is_some, true}
 use Rattle.term_table.specs.Table.{AllKnown, tree_at, Extends}
+use Rattle.hereditary_subst.specs.Limits.{is_limited, left_of}
 use Rattle.prover_goals.specs.Search.{IsSearch}
 use Rattle.view_goals.specs.Rows.{row_view}
 use Rattle.view_goal_text.specs.Listing.{row_lines}
@@ -14,6 +15,8 @@ invariant-loop-index l = record {
   lines : AreKnownLines l.table l.lines.items;
   ids : AllKnown l.table l.known.items;
   search : IsSearch l.table l.search;
+  limited : is_limited l.search.memo ≡ is_limited l.initial.search.memo;
+  left : left_of l.search.memo ≤ left_of l.initial.search.memo;
   exact : AreFormTerms (tree_at l.initial.table l.fn.start ∷ []) → AreFormRows (map (row_view l.initial.table) l.rows)
       → AreFormTerms (map (tree_at l.table) l.known.items)
       × (map (line_view l.table) l.lines.items
