@@ -7,6 +7,7 @@ ghost use Rattle.term_table.specs.Table.{IsKnown, Extends};
 ghost use Rattle.prover_class.specs.Access.{by_all_means};
 ghost use Rattle.prover_goals.specs.Provers.{IsProofBy, whole_proof, prover_of};
 ghost use Rattle.prover_goals.specs.Search.{IsSearch, IsContext, IsAfter};
+ghost use Rattle.hereditary_subst.specs.Limits.{Spends};
 
 use crate::access::proof_by_access;
 use hereditary_subst::Exhausted;
@@ -21,7 +22,6 @@ pub(crate) struct ByAllMeans {
 
 impl Leaf for ByAllMeans {
     ghost use Rattle.prover_goals.specs.Provers.{all_means};
-ghost use Rattle.hereditary_subst.specs.Limits.{Spends};
 
     ghost by = { λ leaf. all_means leaf.counted };
 

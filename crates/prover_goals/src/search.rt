@@ -4,7 +4,8 @@ ghost use Rattle.std.specs.Prelude.{◌≡◌, ◌+◌, ◌*◌, ◌^◌, ◌≤
 ghost use Rattle.term_table.specs.Table.{TableView, IsKnown, Extends};
 ghost use Rattle.prover_ids.specs.Hypotheses.{AreKnownHyps};
 ghost use Rattle.prover_goals.specs.Answers.{IsFoundProof};
-ghost use Rattle.hereditary_subst.specs.Limits.{left_of, results_of, Counts, Spends, NeverResults};
+ghost use Rattle.hereditary_subst.specs.Limits.{is_limited, left_of, charge, results_of};
+ghost use Rattle.hereditary_subst.specs.Limits.{Counts, Spends, NeverResults};
 ghost use Rattle.prover_goals.specs.Search.{IsSearch, IsContext, IsAfter, uncounted};
 
 use crate::answers::{Answers, Means, question_of};
@@ -84,8 +85,9 @@ impl Search {
             return Ok(());
         }
         self.counted = count;
-        self.memo
-            .spend_steps(terms.saturating_mul(STEPS_A_TERM).saturating_sub(1))
+        let steps = terms.saturating_mul(STEPS_A_TERM).saturating_sub(1);
+        self.memo.spend_steps(steps)?;
+        Ok(())
     }
 }
 
