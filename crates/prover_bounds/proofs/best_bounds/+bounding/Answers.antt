@@ -188,9 +188,6 @@ made-returns-in-Limit-clause-spends t c = (refl, omega arith, never-spent c.limi
 pub made-returns-in-Itself-clause-spends : goal.made-returns-in-Itself-clause-spends
 made-returns-in-Itself-clause-spends t c = (refl, omega arith, never-spent c.by_itself.new.table c.args.memo.now c.by_itself.result c.by_itself.ensures.memory)
 
-pub made_by_parts-returns-in_default-clause-spends : goal.made_by_parts-returns-in_default-clause-spends
-made_by_parts-returns-in_default-clause-spends t c = (refl, omega arith, never-spent c.limit.new.table c.args.memo.now c.limit.result c.limit.ensures.memory)
-
 pub made_by_parts-returns-in-Capped-clause-spends : goal.made_by_parts-returns-in-Capped-clause-spends
 made_by_parts-returns-in-Capped-clause-spends t c = (refl, omega arith, never-spent c.by_ceiling.new.table c.args.memo.now c.by_ceiling.result c.by_ceiling.ensures.memory)
 

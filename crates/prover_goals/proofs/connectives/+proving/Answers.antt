@@ -154,11 +154,6 @@ proof_of_both-returns-in_ok-right-in-Some-clause-spends g t c =
     let r = c.in_ok-right-in-Some.ensures.spends in
     (r.0 ∙ l.0, omega (arith, l.1, r.1), never-spent c.both.new.table c.goal_proof-in-Some.new.search.memo c.both.result c.both.ensures.memory)
 
-pub proof_of_either-returns-in-Some-clause-spends : goal.proof_of_either-returns-in-Some-clause-spends
-proof_of_either-returns-in-Some-clause-spends g t c =
-    let l = c.in_ok-left.ensures.spends in
-    (l.0, l.1, never-spent c.joined.new.table c.goal_proof.new.search.memo c.joined.result c.joined.ensures.memory)
-
 pub proof_of_either-returns-clause-spends : goal.proof_of_either-returns-clause-spends
 proof_of_either-returns-clause-spends g t c =
     let l = c.in_ok-left.ensures.spends in
