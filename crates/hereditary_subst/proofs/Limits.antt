@@ -1,7 +1,7 @@
--- How many results count, by whether there is a limit, and what calls in turn say of it.
-use Rattle.std.proofs.Common.{◌≡◌, ℕ, ◌+◌, ◌≤◌, Bool, true, false, cond, Result, Ok, Err, IfErr, OnOk, refl, sym, ◌∙◌, arith}
+-- How many results count, by whether there is a limit, and last calls that get no memo.
+use Rattle.std.proofs.Common.{◌≡◌, ℕ, ◌+◌, ◌≤◌, Bool, true, false, cond, Result, Ok, Err, IfErr, refl, arith}
 use Rattle.term_table.specs.Table.{TableView}
-use Rattle.hereditary_subst.specs.Limits.{is_limited, left_of, charge, Counts, IsSpent, Spends, NeverResults}
+use Rattle.hereditary_subst.specs.Limits.{IsSpent, NeverResults}
 use Rattle.hereditary_subst.specs.declared.kept.Memo.{Memo}
 use Rattle.hereditary_subst.specs.declared.exhausted.Exhausted.{Exhausted}
 use Rattle.hereditary_subst.specs.declared.exhausted.Exhausted.TheVariants.{Results}
@@ -22,8 +22,3 @@ charge-none false n h = refl
 pub never-spent : {A : Type 0} (t : TableView) (m : Memo) (r : Result A Exhausted) → NeverResults r → IfErr r (λ e. e ≡ Results → IsSpent t m)
 never-spent t m (Ok x) h = tt
 never-spent t m (Err e) h = λ q. absurd (h q)
-
--- what is counted is spent
-pub counts-spent : {A : Type 0} (n : ℕ) (t : TableView) (old new : Memo) (r : Result A Exhausted) → Counts n old new r → Spends t old new r
-counts-spent n t old new (Ok x) c = (c.0, omega (arith, c.1), tt)
-counts-spent n t old new (Err e) c = (c.1 ∙ sym c.0, omega (arith, c.3), λ _. (c.1, λ _. c.3))
