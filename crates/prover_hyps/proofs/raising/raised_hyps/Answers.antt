@@ -44,10 +44,10 @@ loop-i-preserved c =
       memo = done.memo;
       limited = done.spends.0 ∙ c.loop-i.invariant.limited;
       less = omega (arith, done.spends.1, c.loop-i.invariant.less);
-      left = λ e.
+      left = λ y.
           let one : left_of c.push_raised.new.memo + 1 ≤ left_of c.loop-i.memo =
-          subst (λ b. left_of c.push_raised.new.memo + cond b 1 0 ≤ left_of c.loop-i.memo) (c.loop-i.invariant.limited ∙ e) done.left in
-          omega (arith, one, c.loop-i.invariant.left e);
+          subst (λ b. left_of c.push_raised.new.memo + cond b 1 0 ≤ left_of c.loop-i.memo) (c.loop-i.invariant.limited ∙ y) done.left in
+          omega (arith, one, c.loop-i.invariant.left y);
       exact = raised-step s u l i d e more c.loop-i-test.true
           (λ Γ A a q. subst (λ p. AreHyps u more (raised_hyps Γ ++ (shift_form 1 0 A, shift 1 0 p) ∷ [])) (st.same (get_or l i e).proof proof)
           (done.exact (raised_hyps Γ) A (c.loop-i.invariant.exact Γ a) (st.same (get_or l i d).form form ∙ q)));
