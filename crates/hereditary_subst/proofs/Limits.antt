@@ -16,7 +16,7 @@ charge-none false n h = refl
 
 pub charge-within : (b : Bool) (x y n : ℕ) → x ≤ y → (b ≡ true → x + n ≤ y) → x + cond b n 0 ≤ y
 charge-within true x y n h k = k refl
-charge-within false x y n h k = h
+charge-within false x y n h k = omega (arith, h)
 
 -- a call without a memo, as the last
 pub never-spent : {A : Type 0} (t : TableView) (m : Memo) (r : Result A Exhausted) → NeverResults r → IfErr r (λ e. e ≡ Results → IsSpent t m)
