@@ -1,6 +1,7 @@
 //! The resource that a call ran out of.
 
 ghost use Rattle.std.specs.Prelude.{◌≡◌};
+ghost use Rattle.hereditary_subst.specs.declared.exhausted.Exhausted.TheVariants.{Results};
 
 use std::alloc::{AllocError, AllocFailed};
 
@@ -33,10 +34,12 @@ impl<T: Drop> From<AllocFailed<T>> for Exhausted {
     }
 }
 
-/// Converts for a call whose only error is out of memory: it also returns that error past its own
-/// limit.
-impl From<Exhausted> for AllocError {
-    fn from(_what: Exhausted) -> AllocError {
+impl Exhausted {
+    /// Returns the error of a call that had no limit, which can have run out of memory alone. There
+    /// is no other way from this type to `AllocError`, so no call merges the two.
+    pub fn memory(self) -> AllocError
+        requires { self ≡ Results → ⊥ }
+    {
         AllocError
     }
 }

@@ -4,10 +4,19 @@
 //! call that asked for it. Rows are found by an ordered map of numbers, so that no choice of ids
 //! makes them slow to find. They are kept outside the table whose ids they name.
 
-ghost use Rattle.std.specs.Prelude.{◌≡◌, ◌+◌, IfSome, OnOk};
+ghost use Rattle.std.specs.Prelude.{◌≡◌, ◌+◌, true, false, IfSome, IsTrue, OnOk};
 ghost use Rattle.term_table.specs.Table.{TableView, IsKnown};
 ghost use Rattle.hereditary_subst.specs.Kept.{IsMemo, Says, AreKnownIds};
-ghost use Rattle.hereditary_subst.specs.Limits.{left_of, results_of, Counts};
+ghost use Rattle.hereditary_subst.specs.Limits.{
+  limit_of,
+  is_limited,
+  left_of,
+  charge,
+  results_of,
+  Counts,
+  IsSpent,
+  SpendsResults,
+};
 
 use crate::MOST_TREES;
 use crate::exhausted::Exhausted;
@@ -52,13 +61,13 @@ pub(crate) struct Atom {
     pub(crate) met: Option<Id>,
 }
 
-/// Cached results of shifts and substitutions on one table, up to a limit. Results that are cached
-/// elsewhere may count towards the limit too.
+/// Cached results of shifts and substitutions on one table, up to a limit if there is one. Results
+/// that are cached elsewhere may count towards the limit too.
 #[derive(Drop)]
 pub struct Memo {
     rows: BTreeMap<Question, Row>,
-    // how many results may still be kept
-    left: usize,
+    // how many results may still be kept, if there is a limit
+    left: Option<usize>,
 }
 
 /// The id as a number.
@@ -110,41 +119,88 @@ impl Memo {
     /// results, counting those of `spend`, returns `Results`.
     pub fn new(alloc: Global, left: usize) -> Memo
         ensures memo { (t : TableView) → IsMemo t result }
+        ensures limited { is_limited result ≡ true }
         ensures left { left_of result ≡ left }
     {
         Memo {
             rows: BTreeMap::new(alloc),
-            left,
+            left: Some(left),
         }
+    }
+
+    /// Returns an empty memo without a limit, which allocates nothing yet: no call that is given it
+    /// returns `Results`.
+    pub fn unlimited(alloc: Global) -> Memo
+        ensures memo { (t : TableView) → IsMemo t result }
+        ensures limited { is_limited result ≡ false }
+    {
+        Memo {
+            rows: BTreeMap::new(alloc),
+            left: None,
+        }
+    }
+
+    /// Takes the limit away until `restore` gives it back, and returns how many results are left of
+    /// it. What is cached meanwhile doesn't count.
+    pub fn lift(&mut self) -> Option<usize>
+        ensures memo { (t : TableView) → IsMemo t self.old → IsMemo t self.new }
+        ensures limited { is_limited self.new ≡ false }
+        ensures limit { result ≡ limit_of self.old }
+    {
+        let limit = self.left;
+        self.left = None;
+        limit
+    }
+
+    /// Gives the memo the limit that `lift` took away.
+    pub fn restore(&mut self, limit: Option<usize>)
+        ensures memo { (t : TableView) → IsMemo t self.old → IsMemo t self.new }
+        ensures limit { limit_of self.new ≡ limit }
+    {
+        self.left = limit;
+    }
+
+    /// Counts so many results, if there is a limit. Fails if fewer are left; then none is left.
+    fn count(&mut self, results: u64) -> Result<(), Exhausted>
+        ensures memo { (t : TableView) → IsMemo t self.old → IsMemo t self.new }
+        ensures counts { Counts results self.old self.new result }
+    {
+        let Some(left) = self.left else {
+            return Ok(());
+        };
+        if (left as u64) < results {
+            self.left = Some(0);
+            return Err(Exhausted::Results);
+        }
+        self.left = Some(left - results as usize);
+        Ok(())
     }
 
     /// Counts a result that is cached elsewhere.
     ///
-    /// Errors: `Results` past the limit.
+    /// Errors: `Results` if none is left.
     pub fn spend(&mut self) -> Result<(), Exhausted>
         ensures memo { (t : TableView) → IsMemo t self.old → IsMemo t self.new }
-        ensures left { Counts 1 self.old self.new result }
+        ensures counts { Counts 1 self.old self.new result }
     {
-        if self.left == 0 {
-            return Err(Exhausted::Results);
-        }
-        self.left -= 1;
-        Ok(())
+        self.count(1)
     }
 
     /// Counts `steps` steps that cache nothing: one result for the call, and one for each 16 steps.
     ///
-    /// Errors: `Results` past the limit.
+    /// Errors: `Results` if fewer are left; these count all the same, so that none is left.
     pub fn spend_steps(&mut self, steps: u64) -> Result<(), Exhausted>
         ensures memo { (t : TableView) → IsMemo t self.old → IsMemo t self.new }
-        ensures left { Counts (results_of steps) self.old self.new result }
+        ensures counts { Counts (results_of steps) self.old self.new result }
     {
-        let results = steps / STEPS_A_RESULT + 1;
-        if (self.left as u64) < results {
-            return Err(Exhausted::Results);
-        }
-        self.left -= results as usize;
-        Ok(())
+        self.count(steps / STEPS_A_RESULT + 1)
+    }
+
+    /// Whether the table has more trees than results may be added for; false without a limit.
+    fn is_crowded(&self, table: &Table) -> bool
+        ensures { IsTrue result → IsSpent table.now self.now }
+    {
+        self.left.is_some() && table.count() > MOST_TREES
     }
 
     /// The cached result for the question, as numbers.
@@ -169,7 +225,8 @@ impl Memo {
 
     /// Caches a result for the question.
     ///
-    /// Errors: the limit is reached, the table has more than `MOST_TREES` trees, or out of memory.
+    /// Errors: the limit is reached, there is a limit and the table has more than `MOST_TREES`
+    /// trees, or out of memory.
     pub(crate) fn keep(
         &mut self,
         table: &Table,
@@ -180,9 +237,10 @@ impl Memo {
         requires memo { IsMemo table.now self.old }
         requires says { Says table.now question term met }
         ensures memo { IsMemo table.now self.new }
-        ensures left { OnOk result (left_of self.old ≡ left_of self.new + 1) }
+        ensures spends { SpendsResults table.now self.old self.new result }
+        ensures left { OnOk result (left_of self.old ≡ left_of self.new + charge self.old 1) }
     {
-        if table.count() > MOST_TREES {
+        if self.is_crowded(table) {
             return Err(Exhausted::Results);
         }
         self.spend()?;

@@ -18,7 +18,7 @@ mod substitute;
 
 ghost use Rattle.std.specs.Prelude.{◌≡◌, ◌<◌, ◌≤◌, ◌+◌, ◌^◌, IfOk, OnOk};
 ghost use Rattle.hereditary_subst.specs.Kept.{IsMemo};
-ghost use Rattle.hereditary_subst.specs.Limits.{left_of};
+ghost use Rattle.hereditary_subst.specs.Limits.{SpendsResults};
 ghost use Rattle.term_table.specs.Tree.{shifted};
 ghost use Rattle.term_table.specs.Subst.{HSub, HSubType, hsub, hsub_type, erase};
 ghost use Rattle.term_table.specs.Table.{IsKnown, tree_at, Extends, Stands};
@@ -31,7 +31,7 @@ use std::alloc::{AllocError, Global};
 use substitute::{subst_at, subst_type_at};
 use term_table::{Id, Node, Table, substitution_laws};
 
-/// How many results a call may cache if it is passed no memo.
+/// How many results a check caches at most: the limit that the crates above give a memo.
 pub const MOST_RESULTS: usize = 4_000_000;
 
 /// The number of trees of a table above which no call caches another result.
@@ -49,33 +49,35 @@ pub enum Simple {
 /// Shifts a tree: raises each variable from `from` on by `by`, as if `by` more binders were put
 /// outside the `from` nearest. Returns None exactly if a variable would reach 2^32.
 ///
-/// Errors: out of memory, also if more than `MOST_RESULTS` results would be cached; each id keeps
-/// its tree.
+/// Errors: out of memory alone; each id keeps its tree.
 pub fn shift(table: &mut Table, id: Id, by: u32, from: u32) -> Result<Option<Id>, AllocError>
     requires { IsKnown table.old id }
     ensures tree { IfOk result (Stands table.new (shifted by from (tree_at table.old id))) }
     ensures extends { Extends table.old table.new }
 {
     table.laws();
-    let mut memo = Memo::new(table.allocator(), MOST_RESULTS);
-    let shifted = shift_at(table, &mut memo, id, u64::from(by), u64::from(from))?;
-    Ok(shifted)
+    let mut memo = Memo::unlimited(table.allocator());
+    match shift_at(table, &mut memo, id, u64::from(by), u64::from(from)) {
+        Ok(shifted) => Ok(shifted),
+        Err(e) => Err(e.memory()),
+    }
 }
 
 /// Raises every free variable of a tree by `by`, which is at most 2^32. Returns None exactly if a
 /// variable would reach 2^32.
 ///
-/// Errors: out of memory, also if more than `MOST_RESULTS` results would be cached; each id keeps
-/// its tree.
+/// Errors: out of memory alone; each id keeps its tree.
 pub fn weaken(table: &mut Table, id: Id, by: u64) -> Result<Option<Id>, AllocError>
     requires small { by ≤ 2 ^ 32 }
     requires known { IsKnown table.old id }
     ensures tree { IfOk result (Stands table.new (shifted by 0 (tree_at table.old id))) }
     ensures extends { Extends table.old table.new }
 {
-    let mut memo = Memo::new(table.allocator(), MOST_RESULTS);
-    let weakened = weaken_with(table, &mut memo, id, by)?;
-    Ok(weakened)
+    let mut memo = Memo::unlimited(table.allocator());
+    match weaken_with(table, &mut memo, id, by) {
+        Ok(weakened) => Ok(weakened),
+        Err(e) => Err(e.memory()),
+    }
 }
 
 /// Raises every free variable of a tree by `by`, as `weaken` does, with the cached results of
@@ -94,7 +96,7 @@ pub fn weaken_with(
     ensures tree { IfOk result (Stands table.new (shifted by 0 (tree_at table.old id))) }
     ensures extends { Extends table.old table.new }
     ensures memo { IsMemo table.new memo.new }
-    ensures left { OnOk result (left_of memo.new ≤ left_of memo.old) }
+    ensures spends { SpendsResults table.new memo.old memo.new result }
 {
     table.laws();
     shift_at(table, memo, id, by, 0)
@@ -120,8 +122,7 @@ fn type_of_simple(table: &mut Table, s: &Simple) -> Result<Id, AllocError>
 /// `s` of that variable, and lowers the other variables by one. Returns Some exactly if hereditary
 /// substitution has a result, and then this result.
 ///
-/// Errors: out of memory, also if more than `MOST_RESULTS` results would be cached; each id keeps
-/// its tree.
+/// Errors: out of memory alone; each id keeps its tree.
 pub fn subst(table: &mut Table, body: Id, arg: Id, s: &Simple) -> Result<Option<Id>, AllocError>
     requires body { IsKnown table.old body }
     requires arg { IsKnown table.old arg }
@@ -135,18 +136,19 @@ pub fn subst(table: &mut Table, body: Id, arg: Id, s: &Simple) -> Result<Option<
 {
     substitution_laws();
     let ty = type_of_simple(table, s)?;
-    let mut memo = Memo::new(table.allocator(), MOST_RESULTS);
+    let mut memo = Memo::unlimited(table.allocator());
     table.laws();
-    let put = subst_at(table, &mut memo, body, arg, 0, ty)?;
-    Ok(put)
+    match subst_at(table, &mut memo, body, arg, 0, ty) {
+        Ok(put) => Ok(put),
+        Err(e) => Err(e.memory()),
+    }
 }
 
 /// Substitutes the term `arg` for variable 0 in the type `body`, hereditarily, at the simple type
 /// `s` of that variable, and lowers the other variables by one. Returns Some exactly if hereditary
 /// substitution has a result, and then this result.
 ///
-/// Errors: out of memory, also if more than `MOST_RESULTS` results would be cached; each id keeps
-/// its tree.
+/// Errors: out of memory alone; each id keeps its tree.
 pub fn subst_type(
     table: &mut Table,
     body: Id,
@@ -165,10 +167,12 @@ pub fn subst_type(
 {
     substitution_laws();
     let ty = type_of_simple(table, s)?;
-    let mut memo = Memo::new(table.allocator(), MOST_RESULTS);
+    let mut memo = Memo::unlimited(table.allocator());
     table.laws();
-    let put = subst_type_at(table, &mut memo, body, arg, 0, ty)?;
-    Ok(put)
+    match subst_type_at(table, &mut memo, body, arg, 0, ty) {
+        Ok(put) => Ok(put),
+        Err(e) => Err(e.memory()),
+    }
 }
 
 /// Substitutes the term `arg` for variable 0 in the type `body`, as `subst_type` does, at the
@@ -196,7 +200,7 @@ pub fn subst_type_with(
         IfOk result (Stands table.new (hsub_type s m 0 t)) }
     ensures extends { Extends table.old table.new }
     ensures memo { IsMemo table.new memo.new }
-    ensures left { OnOk result (left_of memo.new ≤ left_of memo.old) }
+    ensures spends { SpendsResults table.new memo.old memo.new result }
 {
     substitution_laws();
     table.laws();

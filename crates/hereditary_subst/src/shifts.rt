@@ -5,10 +5,11 @@ ghost use Rattle.term_table.specs.Tree.{shifted, Var};
 ghost use Rattle.term_table.specs.Scope.{is_scoped, is_term_shape};
 ghost use Rattle.term_table.specs.Table.{IsKnown, tree_at, Extends, Stands};
 ghost use Rattle.hereditary_subst.specs.Kept.{IsMemo, Lowers};
-ghost use Rattle.hereditary_subst.specs.Limits.{left_of};
+ghost use Rattle.hereditary_subst.specs.Limits.{SpendsResults};
 
 use crate::exhausted::Exhausted;
 use crate::kept::{Memo, Question, number};
+use std::alloc::AllocError;
 use term_table::{Id, Node, Table};
 
 /// The greatest height of a tree whose result isn't cached, such as an equation of two words
@@ -64,7 +65,7 @@ pub(crate) fn shift_at(
     ensures tree { IfOk result (Stands table.new (shifted by from (tree_at table.old id))) }
     ensures extends { Extends table.old table.new }
     ensures memo { IsMemo table.new memo.new }
-    ensures left { OnOk result (left_of memo.new ≤ left_of memo.old) }
+    ensures spends { SpendsResults table.new memo.old memo.new result }
 {
     table.laws();
     if is_within(table, id, from) {
@@ -105,10 +106,10 @@ fn shift_parts(
     ensures tree { IfOk result (Stands table.new (shifted by from (tree_at table.old id))) }
     ensures extends { Extends table.old table.new }
     ensures memo { IsMemo table.new memo.new }
-    ensures left { OnOk result (left_of memo.new ≤ left_of memo.old) }
+    ensures spends { SpendsResults table.new memo.old memo.new result }
 {
     match table.node(id) {
-        Node::Var(n) => shift_variable(table, id, n, by, from),
+        Node::Var(n) => Ok(shift_variable(table, id, n, by, from)?),
         Node::App(f, a) => {
             let Some(g) = shift_at(table, memo, f, by, from)? else {
                 return Ok(None);
@@ -136,7 +137,7 @@ fn shift_variable(
     n: u32,
     by: u64,
     from: u64,
-) -> Result<Option<Id>, Exhausted>
+) -> Result<Option<Id>, AllocError>
     requires small { by ≤ 2 ^ 32 }
     requires known { IsKnown table.old id }
     requires is { Var n ≡ tree_at table.old id }
@@ -170,7 +171,7 @@ fn shift_type_parts(
     ensures tree { IfOk result (Stands table.new (shifted by from (tree_at table.old id))) }
     ensures extends { Extends table.old table.new }
     ensures memo { IsMemo table.new memo.new }
-    ensures left { OnOk result (left_of memo.new ≤ left_of memo.old) }
+    ensures spends { SpendsResults table.new memo.old memo.new result }
 {
     match table.node(id) {
         Node::TApp(p, a) => {
@@ -211,7 +212,7 @@ pub(crate) fn lower_at(
     ensures tree { IfOk result (Lowers table.new x (tree_at table.old id)) }
     ensures extends { Extends table.old table.new }
     ensures memo { IsMemo table.new memo.new }
-    ensures left { OnOk result (left_of memo.new ≤ left_of memo.old) }
+    ensures spends { SpendsResults table.new memo.old memo.new result }
 {
     if is_within(table, id, x) {
         return Ok(Some(id));
@@ -251,10 +252,10 @@ fn lower_parts(table: &mut Table, memo: &mut Memo, id: Id, x: u64) -> Result<Opt
     ensures tree { IfOk result (Lowers table.new x (tree_at table.old id)) }
     ensures extends { Extends table.old table.new }
     ensures memo { IsMemo table.new memo.new }
-    ensures left { OnOk result (left_of memo.new ≤ left_of memo.old) }
+    ensures spends { SpendsResults table.new memo.old memo.new result }
 {
     match table.node(id) {
-        Node::Var(n) => lower_variable(table, id, n, x),
+        Node::Var(n) => Ok(lower_variable(table, id, n, x)?),
         Node::App(f, a) => {
             let Some(g) = lower_at(table, memo, f, x)? else {
                 return Ok(None);
@@ -276,7 +277,7 @@ fn lower_parts(table: &mut Table, memo: &mut Memo, id: Id, x: u64) -> Result<Opt
 }
 
 /// Lowers the variable `n`.
-fn lower_variable(table: &mut Table, id: Id, n: u32, x: u64) -> Result<Option<Id>, Exhausted>
+fn lower_variable(table: &mut Table, id: Id, n: u32, x: u64) -> Result<Option<Id>, AllocError>
     requires known { IsKnown table.old id }
     requires is { Var n ≡ tree_at table.old id }
     ensures tree { IfOk result (Lowers table.new x (tree_at table.old id)) }
@@ -306,7 +307,7 @@ fn lower_type_parts(
     ensures tree { IfOk result (Lowers table.new x (tree_at table.old id)) }
     ensures extends { Extends table.old table.new }
     ensures memo { IsMemo table.new memo.new }
-    ensures left { OnOk result (left_of memo.new ≤ left_of memo.old) }
+    ensures spends { SpendsResults table.new memo.old memo.new result }
 {
     match table.node(id) {
         Node::TApp(p, a) => {

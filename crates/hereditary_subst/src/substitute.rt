@@ -8,12 +8,13 @@ ghost use Rattle.term_table.specs.Scope.{is_term_shape};
 ghost use Rattle.term_table.specs.Table.{IsKnown, tree_at, Extends, Stands};
 ghost use Rattle.hereditary_subst.specs.Heads.{put_of, put_type_of, HeadPut, HeadApplied};
 ghost use Rattle.hereditary_subst.specs.Kept.{IsMemo};
-ghost use Rattle.hereditary_subst.specs.Limits.{left_of};
+ghost use Rattle.hereditary_subst.specs.Limits.{SpendsResults};
 ghost use Rattle.hereditary_subst.specs.Inside.Spare.{IsLowerable, Spares};
 
 use crate::exhausted::Exhausted;
 use crate::kept::{Atom, Memo, Question, number};
 use crate::shifts::{lower_at, shift_at};
+use std::alloc::AllocError;
 use term_table::{Id, Node, Table};
 
 /// Returns whether `r` is canonical and `m` can be raised under all its binders. May return false
@@ -52,7 +53,7 @@ fn spare_at(
     ensures tree { IfOk result (Spares table.new (tree_at table.old m) x (tree_at table.old id)) }
     ensures extends { Extends table.old table.new }
     ensures memo { IsMemo table.new memo.new }
-    ensures left { OnOk result (left_of memo.new ≤ left_of memo.old) }
+    ensures spends { SpendsResults table.new memo.old memo.new result }
 {
     let Some(r) = lower_at(table, memo, id, x)? else {
         return Ok(None);
@@ -82,7 +83,7 @@ pub(crate) fn subst_at(
     ensures tree { IfOk result (Stands table.new (put_of table.old ty m x id)) }
     ensures extends { Extends table.old table.new }
     ensures memo { IsMemo table.new memo.new }
-    ensures left { OnOk result (left_of memo.new ≤ left_of memo.old) }
+    ensures spends { SpendsResults table.new memo.old memo.new result }
 {
     if let Node::Lam(b) = table.node(id) {
         return subst_under(table, memo, id, b, m, x, ty);
@@ -116,7 +117,7 @@ fn subst_under(
     ensures tree { IfOk result (Stands table.new (put_of table.old ty m x id)) }
     ensures extends { Extends table.old table.new }
     ensures memo { IsMemo table.new memo.new }
-    ensures left { OnOk result (left_of memo.new ≤ left_of memo.old) }
+    ensures spends { SpendsResults table.new memo.old memo.new result }
 {
     if let Some(r) = spare_at(table, memo, id, m, x)? {
         return Ok(Some(r));
@@ -155,10 +156,10 @@ fn head_at(
     ensures tree { IfOk result (HeadPut table.old ty m x id table.new) }
     ensures extends { Extends table.old table.new }
     ensures memo { IsMemo table.new memo.new }
-    ensures left { OnOk result (left_of memo.new ≤ left_of memo.old) }
+    ensures spends { SpendsResults table.new memo.old memo.new result }
 {
     match table.node(id) {
-        Node::Var(n) => head_variable(table, id, n, m, x, ty),
+        Node::Var(n) => Ok(head_variable(table, id, n, m, x, ty)?),
         Node::App(f, a) => head_kept(table, memo, f, a, id, m, x, ty),
         Node::Lam(_) | Node::Fam(_) | Node::TApp(_, _) | Node::Pi(_, _) => Ok(None),
         _ => Ok(Some(Atom {
@@ -176,7 +177,7 @@ fn head_variable(
     m: Id,
     x: u64,
     ty: Id,
-) -> Result<Option<Atom>, Exhausted>
+) -> Result<Option<Atom>, AllocError>
     requires known { IsKnown table.old id }
     requires is { Var n ≡ tree_at table.old id }
     requires known_m { IsKnown table.old m }
@@ -223,7 +224,7 @@ fn head_kept(
     ensures tree { IfOk result (HeadPut table.old ty m x id table.new) }
     ensures extends { Extends table.old table.new }
     ensures memo { IsMemo table.new memo.new }
-    ensures left { OnOk result (left_of memo.new ≤ left_of memo.old) }
+    ensures spends { SpendsResults table.new memo.old memo.new result }
 {
     if let Some(term) = spare_at(table, memo, id, m, x)? {
         return Ok(Some(Atom { term, met: None }));
@@ -265,7 +266,7 @@ fn head_parts(
     ensures tree { IfOk result (HeadPut table.old ty m x id table.new) }
     ensures extends { Extends table.old table.new }
     ensures memo { IsMemo table.new memo.new }
-    ensures left { OnOk result (left_of memo.new ≤ left_of memo.old) }
+    ensures spends { SpendsResults table.new memo.old memo.new result }
 {
     let Some(b) = subst_at(table, memo, a, m, x, ty)? else {
         return Ok(None);
@@ -298,7 +299,7 @@ fn reduce_at(
     ensures tree { IfOk result (HeadApplied table.old u g b table.new) }
     ensures extends { Extends table.old table.new }
     ensures memo { IsMemo table.new memo.new }
-    ensures left { OnOk result (left_of memo.new ≤ left_of memo.old) }
+    ensures spends { SpendsResults table.new memo.old memo.new result }
 {
     table.laws();
     let Node::Lam(body) = table.node(g) else {
@@ -347,7 +348,7 @@ pub(crate) fn subst_type_at(
     ensures tree { IfOk result (Stands table.new (put_type_of table.old ty m x id)) }
     ensures extends { Extends table.old table.new }
     ensures memo { IsMemo table.new memo.new }
-    ensures left { OnOk result (left_of memo.new ≤ left_of memo.old) }
+    ensures spends { SpendsResults table.new memo.old memo.new result }
 {
     if is_term(table, id) {
         return Ok(None);
@@ -385,7 +386,7 @@ fn subst_type_parts(
     ensures tree { IfOk result (Stands table.new (put_type_of table.old ty m x id)) }
     ensures extends { Extends table.old table.new }
     ensures memo { IsMemo table.new memo.new }
-    ensures left { OnOk result (left_of memo.new ≤ left_of memo.old) }
+    ensures spends { SpendsResults table.new memo.old memo.new result }
 {
     match table.node(id) {
         Node::Fam(_) => Ok(Some(id)),
@@ -426,7 +427,7 @@ fn subst_product(
     ensures tree { IfOk result (Stands table.new (put_type_of table.old ty m x id)) }
     ensures extends { Extends table.old table.new }
     ensures memo { IsMemo table.new memo.new }
-    ensures left { OnOk result (left_of memo.new ≤ left_of memo.old) }
+    ensures spends { SpendsResults table.new memo.old memo.new result }
 {
     let Some(c) = subst_type_at(table, memo, a, m, x, ty)? else {
         return Ok(None);

@@ -1,9 +1,10 @@
 -- What kept results and judgements say of a table's trees.
-use Rattle.std.specs.Prelude.{◌≡◌, ℕ, Bool, true, Option, Some}
+use Rattle.std.specs.Prelude.{◌≡◌, ℕ, ◌+◌, ◌≤◌, ◌⊎◌, Bool, true, Option, Some}
 use Rattle.std.specs.BTreeMap.{get}
 use Rattle.term_table.specs.Tree.{Tree, Const}
 use Rattle.term_table.specs.Table.{TableView, IsKnown, tree_at}
 use Rattle.hereditary_subst.specs.Kept.{IsMemo}
+use Rattle.hereditary_subst.specs.Limits.{left_of, charge}
 use Rattle.lf_signature.specs.Decide.{synth_of, checks_of, is_type_of}
 use Rattle.lf_check.specs.Lists.{types_of}
 use Rattle.lf_check.specs.Uses.{Covers}
@@ -11,6 +12,7 @@ use Rattle.lf_check.specs.declared.judgements.Question.{Question}
 use Rattle.lf_check.specs.declared.judgements.Question.TheVariants as Q
 use Rattle.lf_check.specs.declared.judgements.Row.{Row}
 use Rattle.lf_check.specs.declared.judgements.Kept.{Kept}
+use Rattle.lf_check.specs.declared.judgements.TheConstants.{STEPS_A_JUDGEMENT}
 use Rattle.lf_check.specs.contracts.judgements.QuestionOrd.TheImpl as block
 
 -- what the term of r synthesises in the context of c
@@ -49,3 +51,8 @@ pub record IsJudgement (sig : Const → Option Tree) (t : TableView) (q : Questi
 pub record AreKept (sig : Const → Option Tree) (t : TableView) (k : Kept) : Type 0 where
   pub memo : IsMemo t k.memo
   pub each : (q : Question) (r : Row) → get block.ghosts.cmp k.rows q ≡ Some r → IsJudgement sig t q r.context r.answer
+
+-- a step more is counted, or it is the last of as many as count as one judgement
+abbrev pub IsStepCounted : Kept → Kept → Type 0
+IsStepCounted old new = ((new.steps ≡ old.steps + 1) × (left_of old.memo ≡ left_of new.memo))
+    ⊎ ((STEPS_A_JUDGEMENT ≤ old.steps + 1) × (new.steps ≡ 0) × (left_of old.memo ≡ left_of new.memo + charge old.memo 1))

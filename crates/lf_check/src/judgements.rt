@@ -5,12 +5,11 @@
 //! the table too (`specs/Lists`), so equal contexts have equal ids. Rows are found by an ordered
 //! map of numbers, so that no choice of ids makes them slow to find.
 
-ghost use Rattle.std.specs.Prelude.{◌≡◌, ◌+◌, ◌/◌, ◌^◌, ◌-◌, ◌≤◌, min, IfSome, OnOk, Option};
+ghost use Rattle.std.specs.Prelude.{◌≡◌, ◌+◌, true, false, IfSome, OnOk, Option};
 ghost use Rattle.term_table.specs.Tree.{Tree, Const};
 ghost use Rattle.term_table.specs.Table.{TableView, IsKnown};
-ghost use Rattle.hereditary_subst.specs.Limits.{left_of, Counts};
-ghost use Rattle.lf_check.specs.Kept.{AreKept, IsJudgement};
-ghost use Rattle.lf_check.specs.declared.judgements.TheConstants.{STEPS_A_JUDGEMENT};
+ghost use Rattle.hereditary_subst.specs.Limits.{is_limited, left_of, charge, Counts, SpendsResults};
+ghost use Rattle.lf_check.specs.Kept.{AreKept, IsJudgement, IsStepCounted};
 
 use hereditary_subst::{Exhausted, Memo};
 use lf_signature::Signature;
@@ -48,16 +47,16 @@ pub(crate) struct Found {
     pub(crate) context: Id,
 }
 
-/// Cached results and judgements on one table and signature, up to one limit for all.
+/// Cached results and judgements on one table and signature, up to one limit for all if there is
+/// one.
 #[derive(Drop)]
 pub struct Kept {
     /// Cached results of shifts and substitutions on the table. Its limit is the judgements' limit
     /// too.
     pub memo: Memo,
     rows: BTreeMap<Question, Row>,
-    // along contexts, with their limit in judgements
+    // along contexts, since the last that counted as a judgement
     steps: u64,
-    limit: usize,
 }
 
 /// The id as a number.
@@ -95,30 +94,47 @@ impl Kept {
     /// `Results`.
     pub fn new(alloc: Global, limit: usize) -> Kept
         ensures kept { (sig : Const → Option Tree) (t : TableView) → AreKept sig t result }
+        ensures limited { is_limited result.memo ≡ true }
         ensures left { left_of result.memo ≡ limit }
     {
         Kept {
             memo: Memo::new(alloc, limit),
             rows: BTreeMap::new(alloc),
             steps: 0,
-            limit,
         }
     }
 
-    /// Counts a step along a context, which keeps nothing. Fails past the limit of steps, by
-    /// `Results`.
+    /// Returns an empty cache without a limit, which allocates nothing yet: no call that is given
+    /// it returns `Results`.
+    pub fn unlimited(alloc: Global) -> Kept
+        ensures kept { (sig : Const → Option Tree) (t : TableView) → AreKept sig t result }
+        ensures limited { is_limited result.memo ≡ false }
+    {
+        Kept {
+            memo: Memo::unlimited(alloc),
+            rows: BTreeMap::new(alloc),
+            steps: 0,
+        }
+    }
+
+    /// Counts a step along a context, which keeps nothing: as many as `STEPS_A_JUDGEMENT` count as
+    /// one judgement.
+    ///
+    /// Errors: `Results` past the limit.
     pub(crate) fn step<S: Signature>(&mut self, table: &Table, sig: &S) -> Result<(), Exhausted>
         requires { AreKept (S.declares sig.now table.now) table.now self.old }
         ensures kept { AreKept (S.declares sig.now table.now) table.now self.new }
-        ensures counted { self.new.steps ≡ min (self.old.steps + 1) (2 ^ 64 - 1) }
-        ensures short { OnOk result (self.new.steps / STEPS_A_JUDGEMENT ≤ self.new.limit) }
+        ensures spends { SpendsResults table.now self.old.memo self.new.memo result }
+        ensures counted { OnOk result (IsStepCounted self.old self.new) }
     {
         let _ = table; // only the clauses speak of it
         let _ = sig; // only the clauses speak of it
-        self.steps = self.steps.saturating_add(1);
-        if self.steps / STEPS_A_JUDGEMENT > self.limit as u64 {
-            return Err(Exhausted::Results);
+        if self.steps < STEPS_A_JUDGEMENT - 1 {
+            self.steps += 1;
+            return Ok(());
         }
+        self.memo.spend()?;
+        self.steps = 0;
         Ok(())
     }
 
@@ -128,7 +144,7 @@ impl Kept {
     pub(crate) fn spend<S: Signature>(&mut self, table: &Table, sig: &S) -> Result<(), Exhausted>
         requires { AreKept (S.declares sig.now table.now) table.now self.old }
         ensures kept { AreKept (S.declares sig.now table.now) table.now self.new }
-        ensures left { Counts 1 self.old.memo self.new.memo result }
+        ensures counts { Counts 1 self.old.memo self.new.memo result }
     {
         let _ = table; // only the clauses speak of it
         let _ = sig; // only the clauses speak of it
@@ -181,7 +197,9 @@ impl Kept {
         requires judges { let declared = S.declares sig.now table.now in
             IsJudgement declared table.now question context answer }
         ensures kept { AreKept (S.declares sig.now table.now) table.now self.new }
-        ensures left { OnOk result (left_of self.old.memo ≡ left_of self.new.memo + 1) }
+        ensures spends { SpendsResults table.now self.old.memo self.new.memo result }
+        ensures left { let counted = charge self.old.memo 1 in
+            OnOk result (left_of self.old.memo ≡ left_of self.new.memo + counted) }
     {
         let _ = table; // only the clauses speak of it
         let _ = sig; // only the clauses speak of it

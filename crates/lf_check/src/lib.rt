@@ -7,10 +7,10 @@
 //! `lf_signature` (`specs/Typing`). Each old id keeps its tree, also if a call runs out of memory.
 //!
 //! No shared term is checked twice if the variables that it uses have equal types: `Kept` caches
-//! the judgements, and can be passed from call to call on one table and signature. It has one limit
-//! for all that it caches; past it a call returns `Exhausted::Results`. Its `memo` can be lent to
-//! other calls on the table. Source: Harper and Licata, Mechanizing Metatheory in a Logical
-//! Framework, JFP 2007, section 2.
+//! the judgements, and can be passed from call to call on one table and signature. It may have one
+//! limit for all that it caches; past it a call returns `Exhausted::Results`, and without it no
+//! call does. Its `memo` can be lent to other calls on the table. Source: Harper and Licata,
+//! Mechanizing Metatheory in a Logical Framework, JFP 2007, section 2.
 #![tactic(auto)]
 
 mod contexts;
@@ -25,6 +25,7 @@ ghost use Rattle.std.specs.Prelude.{◌≡◌, ◌↔◌, IfOk, IsTrue};
 ghost use Rattle.term_table.specs.Table.{IsKnown, AllKnown, tree_at, ctx_of, Extends};
 ghost use Rattle.hereditary_subst.specs.Simples.{IsResult};
 ghost use Rattle.lf_signature.specs.Typing.{Checks, Synth, IsType};
+ghost use Rattle.hereditary_subst.specs.Limits.{SpendsResults};
 ghost use Rattle.lf_check.specs.Kept.{AreKept};
 
 use contexts::context_on;
@@ -39,8 +40,7 @@ use walk::{check_at, synth_at};
 /// Returns whether the term `m` checks against the type `a` in the context `ctx`, whose nearest
 /// type is last: true exactly if there is a derivation.
 ///
-/// Errors: out of memory, also if more than `MOST_RESULTS` results and judgements, counted
-/// together, would be cached; each id keeps its tree.
+/// Errors: out of memory alone; each id keeps its tree.
 pub fn check_term<S: Signature>(
     alloc: Global,
     table: &mut Table,
@@ -59,8 +59,11 @@ pub fn check_term<S: Signature>(
         IfOk result (λ b. IsTrue b ↔ holds) }
     ensures extends { Extends table.old table.new }
 {
-    let mut kept = Kept::new(alloc, MOST_RESULTS);
-    Ok(check_term_with(table, &mut kept, sig, ctx, m, a)?)
+    let mut kept = Kept::unlimited(alloc);
+    match check_term_with(table, &mut kept, sig, ctx, m, a) {
+        Ok(answer) => Ok(answer),
+        Err(e) => Err(e.memory()),
+    }
 }
 
 /// Returns whether the term `m` checks against the type `a` in the context `ctx`, as `check_term`
@@ -86,6 +89,7 @@ pub fn check_term_with<S: Signature>(
         IfOk result (λ b. IsTrue b ↔ holds) }
     ensures extends { Extends table.old table.new }
     ensures kept { AreKept (S.declares sig.now table.new) table.new kept.new }
+    ensures spends { SpendsResults table.new kept.old.memo kept.new.memo result }
 {
     typing_laws();
     let c = context_on(table, kept, sig, ctx)?;
@@ -95,8 +99,7 @@ pub fn check_term_with<S: Signature>(
 /// Returns the type that the atomic term `r` synthesises in the context `ctx`, whose nearest type
 /// is last: None exactly if it synthesises none.
 ///
-/// Errors: out of memory, also if more than `MOST_RESULTS` results and judgements, counted
-/// together, would be cached; each id keeps its tree.
+/// Errors: out of memory alone; each id keeps its tree.
 pub fn synth<S: Signature>(
     alloc: Global,
     table: &mut Table,
@@ -112,8 +115,11 @@ pub fn synth<S: Signature>(
         IfOk result (IsResult table.new holds) }
     ensures extends { Extends table.old table.new }
 {
-    let mut kept = Kept::new(alloc, MOST_RESULTS);
-    Ok(synth_with(table, &mut kept, sig, ctx, r)?)
+    let mut kept = Kept::unlimited(alloc);
+    match synth_with(table, &mut kept, sig, ctx, r) {
+        Ok(ty) => Ok(ty),
+        Err(e) => Err(e.memory()),
+    }
 }
 
 /// Returns the type that the atomic term `r` synthesises in the context `ctx`, as `synth` does,
@@ -136,6 +142,7 @@ pub fn synth_with<S: Signature>(
         IfOk result (IsResult table.new holds) }
     ensures extends { Extends table.old table.new }
     ensures kept { AreKept (S.declares sig.now table.new) table.new kept.new }
+    ensures spends { SpendsResults table.new kept.old.memo kept.new.memo result }
 {
     typing_laws();
     let c = context_on(table, kept, sig, ctx)?;
@@ -145,8 +152,7 @@ pub fn synth_with<S: Signature>(
 /// Returns whether the type `a` is well formed in the context `ctx`, whose nearest type is last:
 /// true exactly if there is a derivation.
 ///
-/// Errors: out of memory, also if more than `MOST_RESULTS` results and judgements, counted
-/// together, would be cached; each id keeps its tree.
+/// Errors: out of memory alone; each id keeps its tree.
 pub fn check_type<S: Signature>(
     alloc: Global,
     table: &mut Table,
@@ -162,8 +168,11 @@ pub fn check_type<S: Signature>(
         IfOk result (λ b. IsTrue b ↔ holds) }
     ensures extends { Extends table.old table.new }
 {
-    let mut kept = Kept::new(alloc, MOST_RESULTS);
-    Ok(check_type_with(table, &mut kept, sig, ctx, a)?)
+    let mut kept = Kept::unlimited(alloc);
+    match check_type_with(table, &mut kept, sig, ctx, a) {
+        Ok(answer) => Ok(answer),
+        Err(e) => Err(e.memory()),
+    }
 }
 
 /// Returns whether the type `a` is well formed in the context `ctx`, as `check_type` does, with the
@@ -186,6 +195,7 @@ pub fn check_type_with<S: Signature>(
         IfOk result (λ b. IsTrue b ↔ holds) }
     ensures extends { Extends table.old table.new }
     ensures kept { AreKept (S.declares sig.now table.new) table.new kept.new }
+    ensures spends { SpendsResults table.new kept.old.memo kept.new.memo result }
 {
     typing_laws();
     let c = context_on(table, kept, sig, ctx)?;

@@ -1,10 +1,11 @@
 //! Builds the sequent of a rule's conclusion.
 
-ghost use Rattle.std.specs.Prelude.{◌≡◌, ◌≤◌, ◌<◌, ◌+◌, ◌^◌, IfOk, IsTrue, map, length};
+ghost use Rattle.std.specs.Prelude.{◌≡◌, false, ◌≤◌, ◌<◌, ◌+◌, ◌^◌, IfOk, IsTrue, map, length};
 ghost use Rattle.term_table.specs.Tree.{apps};
 ghost use Rattle.term_table.specs.Table.{IsKnown, AllKnown, tree_at, Extends};
 ghost use Rattle.lf_signature.specs.Schemas.{premise_of};
 ghost use Rattle.lf_signature.specs.Nodes.{IsIdOf};
+ghost use Rattle.hereditary_subst.specs.Limits.{is_limited, limit_of};
 ghost use Rattle.lf_check.specs.Kept.{AreKept};
 ghost use Rattle.lf_terms.specs.Instance.{trees_of};
 ghost use Rattle.lf_sequents.specs.Sequents.{AreOfTable, AreSequents};
@@ -98,12 +99,8 @@ fn with_proofs(
     }
 }
 
-/// Returns the sequent of the conclusion of the rule with this number, at these parameters and
-/// premises, under the hypotheses `hyps`: None if the signature lacks the rule, or if they don't
-/// have its form.
-///
-/// Errors: out of memory, also if a variable might reach 2^32; each id keeps its tree.
-pub fn by_rule<S: Known>(
+/// The answer of `by_rule`, with cached results that have no limit.
+fn conclude_rule<S: Known>(
     alloc: Global,
     table: &mut Table,
     sig: &S,
@@ -119,6 +116,7 @@ pub fn by_rule<S: Known>(
     requires premises { AreSequents (S.Signature.declares sig.now table.old) table.old
         (sequents_of premises.now) }
     requires kept { AreKept (S.Signature.declares sig.now table.old) table.old kept.old }
+    requires unlimited { is_limited kept.old.memo ≡ false }
     ensures answer { let sig = S.Signature.declares sig.now table.old in
         IfOk result (IsRuleAnswer number sig table.old table.new hyps.now params.now
         (sequents_of premises.now)) }
@@ -145,4 +143,38 @@ pub fn by_rule<S: Known>(
     }
     let hyps = hyps.to_vec(alloc)?;
     Ok(Some(Sequent { hyps, goal, term }))
+}
+
+/// Returns the sequent of the conclusion of the rule with this number, at these parameters and
+/// premises, under the hypotheses `hyps`: None if the signature lacks the rule, or if they don't
+/// have its form. What it caches doesn't count towards a limit of `kept`.
+///
+/// Errors: out of memory, also if a variable might reach 2^32; each id keeps its tree.
+pub fn by_rule<S: Known>(
+    alloc: Global,
+    table: &mut Table,
+    sig: &S,
+    kept: &mut Kept,
+    hyps: &[Id],
+    number: u32,
+    params: &[Id],
+    premises: &[&Sequent],
+) -> Result<Option<Sequent>, AllocError>
+    requires holds { S.Signature.holds sig.now table.old }
+    requires hyps { AllKnown table.old hyps.now }
+    requires params { AllKnown table.old params.now }
+    requires premises { AreSequents (S.Signature.declares sig.now table.old) table.old
+        (sequents_of premises.now) }
+    requires kept { AreKept (S.Signature.declares sig.now table.old) table.old kept.old }
+    ensures answer { let sig = S.Signature.declares sig.now table.old in
+        IfOk result (IsRuleAnswer number sig table.old table.new hyps.now params.now
+        (sequents_of premises.now)) }
+    ensures extends { Extends table.old table.new }
+    ensures kept { AreKept (S.Signature.declares sig.now table.new) table.new kept.new }
+    ensures limit { limit_of kept.new.memo ≡ limit_of kept.old.memo }
+{
+    let limit = kept.memo.lift();
+    let answer = conclude_rule(alloc, table, sig, kept, hyps, number, params, premises);
+    kept.memo.restore(limit);
+    answer
 }

@@ -1,11 +1,12 @@
 //! Builds the formulas of a rule with terms for its parameters in a table. The formulas may be
 //! under more binders than the terms.
 
-ghost use Rattle.std.specs.Prelude.{◌≡◌, ◌≤◌, ◌^◌, IfOk};
+ghost use Rattle.std.specs.Prelude.{◌≡◌, false, ◌≤◌, ◌^◌, IfOk};
 ghost use Rattle.term_table.specs.Table.{IsKnown, AllKnown, tree_at, Extends};
 ghost use Rattle.lf_signature.specs.Schemas.{exp_of, mem_of, form_of, connective_constant};
 ghost use Rattle.lf_signature.specs.Nodes.{IsIdOf};
 ghost use Rattle.hereditary_subst.specs.Kept.{IsMemo};
+ghost use Rattle.hereditary_subst.specs.Limits.{is_limited};
 ghost use Rattle.lf_terms.specs.Instance.{nth_arg, exp_with, mem_with, form_with};
 ghost use Rattle.lf_terms.specs.Instance.{trees_of};
 ghost use Rattle.lf_sequents.specs.Room.{raised_by};
@@ -31,10 +32,12 @@ fn parameter(
     requires small { depth ≤ 2 ^ 32 }
     requires known { AllKnown table.old params.now }
     requires kept { IsMemo table.old memo.old }
+    requires unlimited { is_limited memo.old ≡ false }
     ensures id { let args = raised_by depth (nth_arg (trees_of table.old params.now)) in
         IfOk result (IsIdOf table.new (args number)) }
     ensures extends { Extends table.old table.new }
     ensures kept { IsMemo table.new memo.new }
+    ensures unlimited { is_limited memo.new ≡ false }
 {
     let number = number as usize;
     if number < params.len() {
@@ -57,10 +60,12 @@ fn exp_id(
     requires small { depth ≤ 2 ^ 32 }
     requires known { AllKnown table.old params.now }
     requires kept { IsMemo table.old memo.old }
+    requires unlimited { is_limited memo.old ≡ false }
     ensures id { let args = raised_by depth (nth_arg (trees_of table.old params.now)) in
         IfOk result (IsIdOf table.new (exp_with (exp_of exp.now) args)) }
     ensures extends { Extends table.old table.new }
     ensures kept { IsMemo table.new memo.new }
+    ensures unlimited { is_limited memo.new ≡ false }
 {
     match exp {
         Exp::Par(number) => parameter(table, memo, params, depth, *number),
@@ -92,10 +97,12 @@ fn mem_id(
     requires small { depth ≤ 2 ^ 32 }
     requires known { AllKnown table.old params.now }
     requires kept { IsMemo table.old memo.old }
+    requires unlimited { is_limited memo.old ≡ false }
     ensures id { let args = raised_by depth (nth_arg (trees_of table.old params.now)) in
         IfOk result (IsIdOf table.new (mem_with (mem_of memory.now) args)) }
     ensures extends { Extends table.old table.new }
     ensures kept { IsMemo table.new memo.new }
+    ensures unlimited { is_limited memo.new ≡ false }
 {
     match memory {
         Mem::Par(number) => parameter(table, memo, params, depth, *number),
@@ -132,10 +139,12 @@ pub fn form_id(
     requires small { depth ≤ 2 ^ 32 }
     requires known { AllKnown table.old params.now }
     requires kept { IsMemo table.old memo.old }
+    requires unlimited { is_limited memo.old ≡ false }
     ensures id { let args = raised_by depth (nth_arg (trees_of table.old params.now)) in
         IfOk result (IsIdOf table.new (form_with (form_of form.now) args)) }
     ensures extends { Extends table.old table.new }
     ensures kept { IsMemo table.new memo.new }
+    ensures unlimited { is_limited memo.new ≡ false }
 {
     match form {
         Form::True => table.intern(Node::Const(TT)),

@@ -1,12 +1,13 @@
 //! Checks whether parameters and premises have a rule's form.
 
-ghost use Rattle.std.specs.Prelude.{◌≡◌, ◌↔◌, ◌++◌, [], ◌∷◌, IfOk, IsTrue, map};
+ghost use Rattle.std.specs.Prelude.{◌≡◌, false, ◌↔◌, ◌++◌, [], ◌∷◌, IfOk, IsTrue, map};
 ghost use Rattle.term_table.specs.Table.{IsKnown, AllKnown, tree_at, ctx_of, Extends};
 ghost use Rattle.lf_signature.specs.Rules.{sort_type};
 ghost use Rattle.lf_signature.specs.Schemas.{sort_of, form_of, premise_of};
 ghost use Rattle.lf_signature.specs.Nodes.{IsIdOf};
 ghost use Rattle.lf_signature.specs.Typing.{Checks};
 ghost use Rattle.hereditary_subst.specs.Kept.{IsMemo};
+ghost use Rattle.hereditary_subst.specs.Limits.{is_limited};
 ghost use Rattle.lf_check.specs.Kept.{AreKept};
 ghost use Rattle.lf_terms.specs.Instance.{nth_arg, form_with, under_binder};
 ghost use Rattle.lf_terms.specs.Instance.{trees_of};
@@ -53,15 +54,20 @@ fn is_typed<S: Signature>(
     requires hyps { AllKnown table.old hyps.now }
     requires param { IsKnown table.old param }
     requires kept { AreKept (S.declares sig.now table.old) table.old kept.old }
+    requires unlimited { is_limited kept.old.memo ≡ false }
     ensures answer { let ctx = ctx_of table.old hyps.now in
         let sig = S.declares sig.now table.old in
         let holds = Checks sig ctx (tree_at table.old param) (sort_type (sort_of sort.now)) in
         IfOk result (λ b. IsTrue b ↔ holds) }
     ensures extends { Extends table.old table.new }
     ensures kept { AreKept (S.declares sig.now table.new) table.new kept.new }
+    ensures unlimited { is_limited kept.new.memo ≡ false }
 {
     let kind = sort_id(table, *sort)?;
-    Ok(check_term_with(table, kept, sig, hyps, param, kind)?)
+    match check_term_with(table, kept, sig, hyps, param, kind) {
+        Ok(typed) => Ok(typed),
+        Err(e) => Err(e.memory()),
+    }
 }
 
 /// Checks whether each term checks against its parameter's type.
@@ -77,12 +83,14 @@ pub fn are_typed<S: Signature>(
     requires hyps { AllKnown table.old hyps.now }
     requires params { AllKnown table.old params.now }
     requires kept { AreKept (S.declares sig.now table.old) table.old kept.old }
+    requires unlimited { is_limited kept.old.memo ≡ false }
     ensures answer { let sig = S.declares sig.now table.old in
         let ctx = ctx_of table.old hyps.now in
         let holds = AreTyped sig ctx (map sort_of sorts.now) (trees_of table.old params.now) in
         IfOk result (λ b. IsTrue b ↔ holds) }
     ensures extends { Extends table.old table.new }
     ensures kept { AreKept (S.declares sig.now table.new) table.new kept.new }
+    ensures unlimited { is_limited kept.new.memo ≡ false }
 {
     match sorts {
         [] => Ok(params.is_empty()),
@@ -127,12 +135,14 @@ fn fits_plain(
     requires params { AllKnown table.old params.now }
     requires p { IsOfTable table.old p.now }
     requires kept { IsMemo table.old memo.old }
+    requires unlimited { is_limited memo.old ≡ false }
     ensures answer { let wanted =
         form_with (form_of form.now) (nth_arg (trees_of table.old params.now)) in
         let holds = (p.now.hyps.items ≡ hyps.now) × (tree_at table.old p.now.goal ≡ wanted) in
         IfOk result (λ b. IsTrue b ↔ holds) }
     ensures extends { Extends table.old table.new }
     ensures kept { IsMemo table.new memo.new }
+    ensures unlimited { is_limited memo.new ≡ false }
 {
     let goal = form_id(table, memo, params, 0, form)?;
     Ok(are_same(p.hyps.as_slice(), hyps) && table.same(p.goal, goal))
@@ -153,6 +163,7 @@ fn fits_under(
     requires kind { IsKnown table.old kind }
     requires p { IsOfTable table.old p.now }
     requires kept { IsMemo table.old memo.old }
+    requires unlimited { is_limited memo.old ≡ false }
     ensures answer { let args = nth_arg (trees_of table.old params.now) in
         let wanted = form_with (form_of form.now) (under_binder args) in
         let binds = Binds table.old hyps.now (tree_at table.old kind) p.now.hyps.items in
@@ -160,6 +171,7 @@ fn fits_under(
         IfOk result (λ b. IsTrue b ↔ holds) }
     ensures extends { Extends table.old table.new }
     ensures kept { IsMemo table.new memo.new }
+    ensures unlimited { is_limited memo.new ≡ false }
 {
     table.laws();
     let goal = form_id(table, memo, params, 1, form)?;
@@ -178,11 +190,13 @@ fn fits(
     requires params { AllKnown table.old params.now }
     requires p { IsOfTable table.old p.now }
     requires kept { IsMemo table.old memo.old }
+    requires unlimited { is_limited memo.old ≡ false }
     ensures answer { let holds = FitsPremise table.old hyps.now
         (nth_arg (trees_of table.old params.now)) (premise_of premise.now) p.now in
         IfOk result (λ b. IsTrue b ↔ holds) }
     ensures extends { Extends table.old table.new }
     ensures kept { IsMemo table.new memo.new }
+    ensures unlimited { is_limited memo.new ≡ false }
 {
     match premise {
         Premise::Plain(form) => fits_plain(table, memo, hyps, params, form, p),
@@ -214,12 +228,14 @@ pub fn do_fit(
     requires params { AllKnown table.old params.now }
     requires premises { AreOfTable table.old (sequents_of premises.now) }
     requires kept { IsMemo table.old memo.old }
+    requires unlimited { is_limited memo.old ≡ false }
     ensures answer { let args = nth_arg (trees_of table.old params.now) in
         let holds = FitPremises table.old hyps.now args (map premise_of rows.now)
         (sequents_of premises.now) in
         IfOk result (λ b. IsTrue b ↔ holds) }
     ensures extends { Extends table.old table.new }
     ensures kept { IsMemo table.new memo.new }
+    ensures unlimited { is_limited memo.new ≡ false }
 {
     match rows {
         [] => Ok(premises.is_empty()),

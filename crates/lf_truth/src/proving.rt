@@ -10,9 +10,10 @@ ghost use Rattle.formula_tree.specs.Formulas.{Form};
 ghost use Rattle.formula_tree.specs.Truth.{IsValid};
 ghost use Rattle.lf_truth.specs.Validity.{EncodesClosed, AreGivenTypes, listed};
 ghost use Rattle.lf_signature.specs.Laws.Within.{declared-longest};
+ghost use Rattle.hereditary_subst.specs.Limits.{SpendsResults};
 
 use crate::theorems::truth_laws;
-use lf_check::{Exhausted, Kept, MOST_RESULTS, check_term_with, synth_with};
+use lf_check::{Exhausted, Kept, check_term_with, synth_with};
 use lf_signature::numbers::PF;
 use lf_signature::{Known, Signature, WordSignature, pf};
 use std::alloc::AllocError;
@@ -35,8 +36,7 @@ impl Truthful for WordSignature {
 /// encodes: true exactly if it checks against the type of the proofs of `goal`. If it does, and
 /// `goal` encodes a closed formula, that formula is true in every structure.
 ///
-/// Errors: out of memory alone, also if more than `MOST_RESULTS` results and judgements, counted
-/// together, would be cached; each id keeps its tree.
+/// Errors: out of memory alone; each id keeps its tree.
 pub fn prove_true<S: Truthful>(
     table: &mut Table,
     sig: &S,
@@ -53,8 +53,11 @@ pub fn prove_true<S: Truthful>(
         (λ b. IsTrue b → (F : Form) → EncodesClosed F (tree_at table.old goal) → IsValid F) }
     ensures extends { Extends table.old table.new }
 {
-    let mut kept = Kept::new(table.allocator(), MOST_RESULTS);
-    Ok(prove_true_with(table, &mut kept, sig, proof, goal)?)
+    let mut kept = Kept::unlimited(table.allocator());
+    match prove_true_with(table, &mut kept, sig, proof, goal) {
+        Ok(proves) => Ok(proves),
+        Err(e) => Err(e.memory()),
+    }
 }
 
 /// Returns whether the term `proof` is a proof, over `sig`, of the formula that the term `goal`
@@ -80,6 +83,7 @@ pub fn prove_true_with<S: Truthful>(
         (λ b. IsTrue b → (F : Form) → EncodesClosed F (tree_at table.old goal) → IsValid F) }
     ensures extends { Extends table.old table.new }
     ensures kept { AreKept (S.Signature.declares sig.now table.new) table.new kept.new }
+    ensures spends { SpendsResults table.new kept.old.memo kept.new.memo result }
 {
     truth_laws();
     let proofs = pf(table, goal)?;
@@ -123,6 +127,7 @@ pub fn proved_with<S: Signature>(
         IfOk result (IsResult table.new (λ g. proves (pf g))) }
     ensures extends { Extends table.old table.new }
     ensures kept { AreKept (S.declares sig.now table.new) table.new kept.new }
+    ensures spends { SpendsResults table.new kept.old.memo kept.new.memo result }
 {
     match synth_with(table, kept, sig, &[], proof)? {
         None => Ok(None),
@@ -155,6 +160,7 @@ pub fn proved_formula_with<S: Truthful>(
         (λ g. (F : Form) → EncodesClosed F (tree_at table.new g) → IsValid F)) }
     ensures extends { Extends table.old table.new }
     ensures kept { AreKept (S.Signature.declares sig.now table.new) table.new kept.new }
+    ensures spends { SpendsResults table.new kept.old.memo kept.new.memo result }
 {
     truth_laws();
     proved_with(table, kept, sig, proof)

@@ -5,7 +5,7 @@
 ghost use Rattle.std.specs.Prelude.{◌≡◌, ◌≤◌, ◌+◌, IfOk, OnOk, length};
 ghost use Rattle.term_table.specs.Table.{IsKnown, tree_at, Extends};
 ghost use Rattle.hereditary_subst.specs.Kept.{IsMemo};
-ghost use Rattle.hereditary_subst.specs.Limits.{left_of, results_of};
+ghost use Rattle.hereditary_subst.specs.Limits.{left_of, results_of, SpendsResults, charge};
 ghost use Rattle.formula_tree.specs.Formulas.{Exp};
 ghost use Rattle.lf_terms.specs.Encoding.{exp_encoding};
 ghost use Rattle.prover_ids.specs.Hypotheses.{AreKnownHyps, AreHyps};
@@ -48,7 +48,7 @@ fn lower_word(
         → tree_at table.now e ≡ exp_encoding x
         → IfOk result (λ w. w ≡ (lower_bound counted Γ x).value) }
     ensures memo { IsMemo table.now memo.new }
-    ensures left { OnOk result (left_of memo.new ≤ left_of memo.old) }
+    ensures spends { SpendsResults table.now memo.old memo.new result }
     ensures kept { IfOk result (λ _. AreBounds table.now hyps.now kept.new) }
 {
     if counted {
@@ -83,9 +83,10 @@ pub fn bound_words(
         → IfOk result (λ w. (w.upper ≡ (upper_bound Γ x).value)
         × (w.lower ≡ (lower_bound counted Γ y).value)) }
     ensures memo { IsMemo table.now memo.new }
-    ensures left { let steps = length hyps.now in
-        OnOk result (left_of memo.new + results_of steps ≤ left_of memo.old) }
+    ensures left { let counted = charge memo.old (results_of (length hyps.now)) in
+        OnOk result (left_of memo.new + counted ≤ left_of memo.old) }
     ensures kept { IfOk result (λ _. AreBounds table.now hyps.now kept.new) }
+    ensures spends { SpendsResults table.now memo.old memo.new result }
 {
     memo.spend_steps(hyps.len() as u64)?;
     let upper = choice_of(table, memo, kept, hyps, Side::Upper, a)?;
@@ -119,7 +120,7 @@ pub fn upper_bound(
         → IfOk result (IsWordBound table.new (upper_bound Γ x)) }
     ensures extends { Extends table.old table.new }
     ensures memo { IsMemo table.new memo.new }
-    ensures left { OnOk result (left_of memo.new ≤ left_of memo.old) }
+    ensures spends { SpendsResults table.new memo.old memo.new result }
     ensures kept { IfOk result (λ _. AreBounds table.new hyps.now kept.new) }
 {
     best_bound(table, memo, kept, hyps, Side::Upper, e)
@@ -150,9 +151,10 @@ pub fn lower_bound(
         → IfOk result (IsWordBound table.new (lower_bound counted Γ x)) }
     ensures extends { Extends table.old table.new }
     ensures memo { IsMemo table.new memo.new }
-    ensures left { let steps = length hyps.now in
-        OnOk result (left_of memo.new + results_of steps ≤ left_of memo.old) }
+    ensures left { let counted = charge memo.old (results_of (length hyps.now)) in
+        OnOk result (left_of memo.new + counted ≤ left_of memo.old) }
     ensures kept { IfOk result (λ _. AreBounds table.new hyps.now kept.new) }
+    ensures spends { SpendsResults table.new memo.old memo.new result }
 {
     memo.spend_steps(hyps.len() as u64)?;
     if counted {

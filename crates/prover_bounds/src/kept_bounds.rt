@@ -4,7 +4,7 @@
 ghost use Rattle.std.specs.Prelude.{◌≡◌, ◌+◌, IfOk, IfSome, List, OnOk};
 ghost use Rattle.term_table.specs.Table.{TableView, IsKnown, tree_at};
 ghost use Rattle.hereditary_subst.specs.Kept.{IsMemo};
-ghost use Rattle.hereditary_subst.specs.Limits.{left_of};
+ghost use Rattle.hereditary_subst.specs.Limits.{left_of, SpendsResults, charge};
 ghost use Rattle.formula_tree.specs.Formulas.{Exp};
 ghost use Rattle.lf_terms.specs.Encoding.{exp_encoding};
 ghost use Rattle.prover_ids.specs.declared.hypotheses.Hypothesis.{Hypothesis as H};
@@ -120,8 +120,9 @@ impl KeptBounds {
         requires is { (Γ : Hyps) (x : Exp) → AreHyps table.now hyps.now Γ
             → tree_at table.now e ≡ exp_encoding x → IsKept table.now side Γ x choice proof }
         ensures memo { IsMemo table.now memo.new }
-        ensures left { OnOk result (left_of memo.old ≡ left_of memo.new + 1) }
+        ensures left { OnOk result (left_of memo.old ≡ left_of memo.new + charge memo.old 1) }
         ensures kept { IfOk result (λ _. AreBounds table.now hyps.now self.new) }
+        ensures spends { SpendsResults table.now memo.old memo.new result }
     {
         let exp = number(e);
         let subject = Subject { side, exp };

@@ -5,7 +5,7 @@
 ghost use Rattle.std.specs.Prelude.{◌≡◌, ◌<◌, ◌≤◌, IfOk, IfSome, OnOk};
 ghost use Rattle.term_table.specs.Table.{IsKnown, tree_at, Extends};
 ghost use Rattle.hereditary_subst.specs.Kept.{IsMemo};
-ghost use Rattle.hereditary_subst.specs.Limits.{left_of};
+ghost use Rattle.hereditary_subst.specs.Limits.{SpendsResults, NeverResults};
 ghost use Rattle.formula_tree.specs.Formulas.{Exp, ELit};
 ghost use Rattle.lf_terms.specs.Encoding.{exp_encoding};
 ghost use Rattle.prover_bounds.specs.BoundIds.{IsWordBound, bound_by_ids};
@@ -109,6 +109,7 @@ pub(crate) fn limit(table: &mut Table, side: Side, e: Id) -> Result<Bound, Exhau
     ensures is { (x : Exp) → tree_at table.old e ≡ exp_encoding x
         → IfOk result (IsWordBound table.new (limit side x)) }
     ensures extends { Extends table.old table.new }
+    ensures memory { NeverResults result }
 {
     match side {
         Side::Upper => {
@@ -132,6 +133,7 @@ fn by_word(table: &mut Table, e: Id, w: u64) -> Result<Bound, Exhausted>
     ensures is { tree_at table.old e ≡ exp_encoding (ELit w)
         → IfOk result (IsWordBound table.new (by_word w)) }
     ensures extends { Extends table.old table.new }
+    ensures memory { NeverResults result }
 {
     let proof = rule_term(table, ULE_REFL, &[e])?;
     Ok(Bound { value: w, proof })
@@ -144,6 +146,7 @@ pub(crate) fn by_itself(table: &mut Table, side: Side, e: Id) -> Result<Bound, E
     ensures is { (x : Exp) → tree_at table.old e ≡ exp_encoding x
         → IfOk result (IsWordBound table.new (by_itself side x)) }
     ensures extends { Extends table.old table.new }
+    ensures memory { NeverResults result }
 {
     match literal(table, e) {
         None => limit(table, side, e),
@@ -189,6 +192,7 @@ pub(crate) fn by_ceiling(
         → tree_at table.old b ≡ exp_encoding y
         → IfOk result (IsWordBound table.new (by_ceiling ceiling x y)) }
     ensures extends { Extends table.old table.new }
+    ensures memory { NeverResults result }
 {
     let proof = rule_term(table, ceiling.rule, &[a, b])?;
     Ok(Bound {
@@ -219,6 +223,7 @@ pub(crate) fn by_side(
         → tree_at table.old side ≡ exp_encoding s → IfOk result
         (IsWordBound table.new (by_side number x y z s (bound_by_ids table.old w))) }
     ensures extends { Extends table.old table.new }
+    ensures memory { NeverResults result }
 {
     let least = rule_term(table, number, &[a, b])?;
     let value = word(table, w.value)?;
@@ -250,7 +255,7 @@ pub(crate) fn by_left(
         → IfOk result (IsWordBound table.new (by_left x y z (bound_by_ids table.old v))) }
     ensures extends { Extends table.old table.new }
     ensures memo { IsMemo table.new memo.new }
-    ensures left { OnOk result (left_of memo.new ≤ left_of memo.old) }
+    ensures spends { SpendsResults table.new memo.old memo.new result }
 {
     let form = placed(table, memo, Side::Lower, a)?;
     let turned = oper(table, Op::Band, b, a)?;
@@ -285,7 +290,7 @@ pub(crate) fn by_right_shift(
         (IsWordBound table.new (by_right_shift x y count (bound_by_ids table.old v))) }
     ensures extends { Extends table.old table.new }
     ensures memo { IsMemo table.new memo.new }
-    ensures left { OnOk result (left_of memo.new ≤ left_of memo.old) }
+    ensures spends { SpendsResults table.new memo.old memo.new result }
 {
     let value = word(table, v.value)?;
     let by = word(table, count)?;
@@ -313,7 +318,7 @@ pub(crate) fn by_left_shift(
         (IsWordBound table.new (by_left_shift x y count (bound_by_ids table.old v))) }
     ensures extends { Extends table.old table.new }
     ensures memo { IsMemo table.new memo.new }
-    ensures left { OnOk result (left_of memo.new ≤ left_of memo.old) }
+    ensures spends { SpendsResults table.new memo.old memo.new result }
 {
     let fits = fit_proof(table, memo, v.value, Op::Srl, u64::MAX, count)?;
     let value = word(table, v.value)?;
@@ -346,7 +351,7 @@ pub(crate) fn by_sum(
         (by_sum x y z (bound_by_ids table.old v) (bound_by_ids table.old w))) }
     ensures extends { Extends table.old table.new }
     ensures memo { IsMemo table.new memo.new }
-    ensures left { OnOk result (left_of memo.new ≤ left_of memo.old) }
+    ensures spends { SpendsResults table.new memo.old memo.new result }
 {
     let fits = fit_proof(table, memo, v.value, Op::Add, v.value, w.value)?;
     let left = word(table, v.value)?;
@@ -384,7 +389,7 @@ pub(crate) fn by_difference(
         (IsWordBound table.new (by_difference x y w (bound_by_ids table.old v))) }
     ensures extends { Extends table.old table.new }
     ensures memo { IsMemo table.new memo.new }
-    ensures left { OnOk result (left_of memo.new ≤ left_of memo.old) }
+    ensures spends { SpendsResults table.new memo.old memo.new result }
 {
     let held = fact(table, Rel::Ule, w, v.value)?;
     let value = word(table, v.value)?;

@@ -4,7 +4,7 @@ ghost use Rattle.std.specs.Prelude.{◌≡◌, ◌≤◌, IfOk, drop, OnOk};
 ghost use Rattle.term_table.specs.Tree.{Tree};
 ghost use Rattle.term_table.specs.Table.{IsKnown, tree_at, Extends};
 ghost use Rattle.hereditary_subst.specs.Kept.{IsMemo};
-ghost use Rattle.hereditary_subst.specs.Limits.{left_of};
+ghost use Rattle.hereditary_subst.specs.Limits.{SpendsResults, NeverResults};
 ghost use Rattle.word_ops.specs.declared.Rel.TheVariants.{Ult};
 ghost use Rattle.formula_tree.specs.Formulas.{Exp, ELit, Form, FRel};
 ghost use Rattle.lf_terms.specs.Encoding.{exp_encoding, form_encoding};
@@ -159,7 +159,7 @@ fn by_less(
         → IfOk result (IsWordBound table.new (by_less x w (tree_at table.old proof))) }
     ensures extends { Extends table.old table.new }
     ensures memo { IsMemo table.new memo.new }
-    ensures left { OnOk result (left_of memo.new ≤ left_of memo.old) }
+    ensures spends { SpendsResults table.new memo.old memo.new result }
 {
     let before = rule_term(table, LT_PRED, &[e, word, proof])?;
     folded(table, memo, Side::Upper, e, Op::Sub, w, 1, before)
@@ -175,6 +175,7 @@ fn by_more(table: &mut Table, e: Id, w: u64, word: Id, proof: Id) -> Result<Boun
         → tree_at table.old word ≡ exp_encoding (ELit w)
         → IfOk result (IsWordBound table.new (by_more x w (tree_at table.old proof))) }
     ensures extends { Extends table.old table.new }
+    ensures memory { NeverResults result }
 {
     let bound = rule_term(table, ULT_ULE, &[word, e, proof])?;
     Ok(Bound {
@@ -204,7 +205,7 @@ fn by_equal(
         → IfOk result (IsWordBound table.new (by_equal side x w (tree_at table.old proof))) }
     ensures extends { Extends table.old table.new }
     ensures memo { IsMemo table.new memo.new }
-    ensures left { OnOk result (left_of memo.new ≤ left_of memo.old) }
+    ensures spends { SpendsResults table.new memo.old memo.new result }
 {
     let form = placed(table, memo, side, e)?;
     let itself = rule_term(table, ULE_REFL, &[e])?;
@@ -237,7 +238,7 @@ fn by_relation(
         (by_relation side related.kind x related.value (tree_at table.old proof))) }
     ensures extends { Extends table.old table.new }
     ensures memo { IsMemo table.new memo.new }
-    ensures left { OnOk result (left_of memo.new ≤ left_of memo.old) }
+    ensures spends { SpendsResults table.new memo.old memo.new result }
 {
     let value = related.value;
     match related.kind {
@@ -269,7 +270,7 @@ pub(crate) fn by_hypothesis(
         → IfOk result (IsWordBound table.new (by_first side x (drop at Γ))) }
     ensures extends { Extends table.old table.new }
     ensures memo { IsMemo table.new memo.new }
-    ensures left { OnOk result (left_of memo.new ≤ left_of memo.old) }
+    ensures spends { SpendsResults table.new memo.old memo.new result }
 {
     if hyps.len() <= at {
         return limit(table, side, e);

@@ -10,6 +10,7 @@ ghost use Rattle.formula_tree.specs.Formulas.{Form};
 ghost use Rattle.lf_terms.specs.Encoding.{form_encoding};
 ghost use Rattle.lf_terms.specs.ProofTerms.{AForm, rule_proof, tt_i, and_i, imp_i};
 ghost use Rattle.prover_goals.specs.Inside.Connectives.{join_tree, over_tree};
+ghost use Rattle.hereditary_subst.specs.Limits.{NeverResults};
 
 use hereditary_subst::Exhausted;
 use lf_terms::numbers::{AND_I, IMP_I, TT_I};
@@ -21,6 +22,7 @@ pub(crate) fn truth(table: &mut Table) -> Result<Option<Id>, Exhausted>
     ensures known { IfOk result (λ o. IfSome o (IsKnown table.new)) }
     ensures exact { IfOk result (Stands table.new (Some tt_i)) }
     ensures extends { Extends table.old table.new }
+    ensures memory { NeverResults result }
 {
     let proof = rule_term(table, TT_I, &[])?;
     Ok(Some(proof))
@@ -43,6 +45,7 @@ pub(crate) fn both(
         → tree_at table.old b ≡ form_encoding B → Stands table.old o right
         → IfOk result (Stands table.new (option_map (and_i A B (tree_at table.old p)) o)) }
     ensures extends { Extends table.old table.new }
+    ensures memory { NeverResults result }
 {
     match right {
         None => Ok(None),
@@ -70,6 +73,7 @@ pub(crate) fn joined(
         → tree_at table.old b ≡ form_encoding B → Stands table.old o side
         → IfOk result (Stands table.new (option_map (join_tree rule A B) o)) }
     ensures extends { Extends table.old table.new }
+    ensures memory { NeverResults result }
 {
     match side {
         None => Ok(None),
@@ -95,6 +99,7 @@ pub(crate) fn implied(
         → tree_at table.old b ≡ form_encoding B → Stands table.old o second
         → IfOk result (Stands table.new (option_map (imp_i A B) o)) }
     ensures extends { Extends table.old table.new }
+    ensures memory { NeverResults result }
 {
     match second {
         None => Ok(None),
@@ -121,6 +126,7 @@ pub(crate) fn generalized(
         → Stands table.old o body
         → IfOk result (Stands table.new (option_map (over_tree rule B) o)) }
     ensures extends { Extends table.old table.new }
+    ensures memory { NeverResults result }
 {
     match body {
         None => Ok(None),

@@ -1,10 +1,11 @@
 //! The caches of a proof search.
 
-ghost use Rattle.std.specs.Prelude.{◌≡◌, ◌+◌, ◌*◌, ◌^◌, ◌≤◌, min, IfOk, IfSome, OnOk};
+ghost use Rattle.std.specs.Prelude.{◌≡◌, ◌+◌, ◌*◌, ◌^◌, ◌≤◌, true, min, IfOk, IfSome, OnOk};
 ghost use Rattle.term_table.specs.Table.{TableView, IsKnown, Extends};
 ghost use Rattle.prover_ids.specs.Hypotheses.{AreKnownHyps};
 ghost use Rattle.prover_goals.specs.Answers.{IsFoundProof};
-ghost use Rattle.hereditary_subst.specs.Limits.{left_of, results_of, Counts};
+ghost use Rattle.hereditary_subst.specs.Limits.{is_limited, left_of, charge, results_of};
+ghost use Rattle.hereditary_subst.specs.Limits.{Counts, SpendsResults, NeverResults};
 ghost use Rattle.prover_goals.specs.Search.{IsSearch, IsContext, IsAfter, uncounted};
 
 use crate::answers::{Answers, Means, question_of};
@@ -42,6 +43,7 @@ impl Search {
     /// results returns `Results`; each term that is added to `table` from now on counts as three.
     pub fn new(table: &Table, most: usize) -> Search
         ensures search { (t : TableView) → IsSearch t result }
+        ensures limited { is_limited result.memo ≡ true }
         ensures left { left_of result.memo ≡ most }
         ensures counted { uncounted table.now result ≡ 0 }
     {
@@ -62,7 +64,7 @@ impl Search {
     /// Errors: `Results` past the limit.
     pub fn spend_steps(&mut self, steps: u64) -> Result<(), Exhausted>
         ensures search { (t : TableView) → IsSearch t self.old → IsSearch t self.new }
-        ensures left { Counts (results_of steps) self.old.memo self.new.memo result }
+        ensures counts { Counts (results_of steps) self.old.memo self.new.memo result }
     {
         self.memo.spend_steps(steps)
     }
@@ -71,8 +73,10 @@ impl Search {
     /// limit of the memo.
     pub(crate) fn spend_terms(&mut self, table: &Table) -> Result<(), Exhausted>
         ensures search { (t : TableView) → IsSearch t self.old → IsSearch t self.new }
-        ensures left { let terms = uncounted table.now self.old in OnOk result
-            (left_of self.new.memo + min (3 * terms) (2 ^ 60) ≤ left_of self.old.memo) }
+        ensures left { let counted = min (3 * uncounted table.now self.old) (2 ^ 60) in
+            OnOk result
+            (left_of self.new.memo + charge self.old.memo counted ≤ left_of self.old.memo) }
+        ensures spends { SpendsResults table.now self.old.memo self.new.memo result }
         ensures counted { uncounted table.now self.new ≡ 0 }
     {
         let count = table.count();
@@ -81,8 +85,9 @@ impl Search {
             return Ok(());
         }
         self.counted = count;
-        self.memo
-            .spend_steps(terms.saturating_mul(STEPS_A_TERM).saturating_sub(1))
+        let steps = terms.saturating_mul(STEPS_A_TERM).saturating_sub(1);
+        self.memo.spend_steps(steps)?;
+        Ok(())
     }
 }
 
@@ -110,6 +115,7 @@ impl Context {
         ensures hyps { IfOk result (λ c. c.hyps ≡ hyps) }
         ensures outside { IfOk result (λ c. c.outside ≡ outside) }
         ensures extends { Extends table.old table.new }
+        ensures memory { NeverResults result }
     {
         let absurd = absurdity(table, &hyps)?;
         let alloc = table.allocator();
@@ -148,6 +154,7 @@ fn keep_row(
         IsFoundProof table.now c.hyps c.outside means goal proof }
     ensures same { IfOk result (λ o. o ≡ proof) }
     ensures after { OnOk result (IsAfter table.now search.new context.old context.new) }
+    ensures spends { SpendsResults table.now search.old.memo search.new.memo result }
 {
     let question = question_of(means, context.outside, goal);
     let hyps = context.hyps.as_slice();
@@ -182,6 +189,7 @@ pub(crate) fn keep_answer(
         IsFoundProof table.now c.hyps c.outside means goal proof }
     ensures same { IfOk result (λ o. o ≡ proof) }
     ensures after { OnOk result (IsAfter table.now search.new context.old context.new) }
+    ensures spends { SpendsResults table.now search.old.memo search.new.memo result }
 {
     search.spend_terms(table)?;
     keep_row(table, search, context, means, goal, proof)

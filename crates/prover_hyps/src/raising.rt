@@ -4,7 +4,7 @@ ghost use Rattle.std.specs.Prelude.{◌≡◌, ◌∷◌, ◌++◌, ◌≤◌, �
 ghost use Rattle.term_table.specs.Tree.{shift};
 ghost use Rattle.term_table.specs.Table.{IsKnown, tree_at, Extends};
 ghost use Rattle.hereditary_subst.specs.Kept.{IsMemo};
-ghost use Rattle.hereditary_subst.specs.Limits.{left_of};
+ghost use Rattle.hereditary_subst.specs.Limits.{left_of, SpendsResults, charge};
 ghost use Rattle.formula_tree.specs.Formulas.{Form, shift_form};
 ghost use Rattle.lf_terms.specs.Encoding.{form_encoding};
 ghost use Rattle.prover_ids.specs.Hypotheses.{AreKnownHyps, AreHyps};
@@ -35,7 +35,8 @@ fn push_raised(
         (Γ ++ (shift_form 1 0 A, shift 1 0 (tree_at table.old proof)) ∷ [])) }
     ensures extends { Extends table.old table.new }
     ensures memo { IsMemo table.new memo.new }
-    ensures left { OnOk result (left_of memo.new + 1 ≤ left_of memo.old) }
+    ensures left { OnOk result (left_of memo.new + charge memo.old 1 ≤ left_of memo.old) }
+    ensures spends { SpendsResults table.new memo.old memo.new result }
 {
     memo.spend()?;
     let form = raised(table, memo, form)?;
@@ -59,7 +60,9 @@ pub fn raised_hyps(
         → IfOk result (λ under. AreHyps table.new under (raised_hyps Γ)) }
     ensures extends { Extends table.old table.new }
     ensures memo { IsMemo table.new memo.new }
-    ensures left { OnOk result (left_of memo.new + length hyps.now ≤ left_of memo.old) }
+    ensures left { let counted = charge memo.old (length hyps.now) in
+        OnOk result (left_of memo.new + counted ≤ left_of memo.old) }
+    ensures spends { SpendsResults table.new memo.old memo.new result }
 {
     let mut under = Hypotheses::new(table.allocator());
     let list = hyps.as_slice();

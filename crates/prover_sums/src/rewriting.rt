@@ -5,6 +5,7 @@
 ghost use Rattle.std.specs.Prelude.{◌≡◌, ◌<◌, ℕ, IfOk, List};
 ghost use Rattle.term_table.specs.Table.{IsKnown, tree_at, Extends};
 ghost use Rattle.hereditary_subst.specs.Kept.{IsMemo};
+ghost use Rattle.hereditary_subst.specs.Limits.{SpendsResults, NeverResults};
 ghost use Rattle.word_ops.specs.Words.{word_of};
 ghost use Rattle.word_ops.specs.declared.Op.TheVariants.{Add};
 ghost use Rattle.formula_tree.specs.Formulas.{Exp, ELit, EOp};
@@ -74,6 +75,7 @@ fn whole(table: &mut Table, from: Id, to: Id, proof: Id) -> Result<Rewrite, Exha
         → tree_at table.old to ≡ exp_encoding g
         → IfOk result (λ s. IsRewrite table.new s (whole_of f g (tree_at table.old proof))) }
     ensures extends { Extends table.old table.new }
+    ensures memory { NeverResults result }
 {
     let into = table.intern(Node::Var(0))?;
     Ok(Rewrite {
@@ -93,6 +95,7 @@ fn to_value(table: &mut Table, e: Id, op: Op, v: u64, w: u64) -> Result<Rewrite,
         → IfOk result (λ s.
         IsRewrite table.new s (whole_of f (ELit (word_of op v w)) (calc op v w))) }
     ensures extends { Extends table.old table.new }
+    ensures memory { NeverResults result }
 {
     let value = value_of(table, op, v, w)?;
     let proof = calc(table, op, v, w)?;
@@ -109,6 +112,7 @@ fn to_sum(table: &mut Table, e: Id, a: Id, b: Id) -> Result<Rewrite, Exhausted>
         → tree_at table.old a ≡ exp_encoding x → tree_at table.old b ≡ exp_encoding y
         → IfOk result (λ s. IsRewrite table.new s (negated_of f x y)) }
     ensures extends { Extends table.old table.new }
+    ensures memory { NeverResults result }
 {
     let sum = negated_sum(table, a, b)?;
     let proof = rule_term(table, SUB_NEG, &[a, b])?;
@@ -133,6 +137,7 @@ fn to_scaled(
         → tree_at table.old a ≡ exp_encoding x → tree_at table.old b ≡ exp_encoding y
         → IfOk result (λ s. IsRewrite table.new s (scaled_of number count f x y)) }
     ensures extends { Extends table.old table.new }
+    ensures memory { NeverResults result }
 {
     let sum = scaled_sum(table, a, b, count)?;
     let proof = rule_term(table, number, &[a, b])?;
@@ -149,6 +154,7 @@ fn to_complement(table: &mut Table, e: Id, a: Id, b: Id) -> Result<Rewrite, Exha
         → tree_at table.old a ≡ exp_encoding x → tree_at table.old b ≡ exp_encoding y
         → IfOk result (λ s. IsRewrite table.new s (complemented_of f x y)) }
     ensures extends { Extends table.old table.new }
+    ensures memory { NeverResults result }
 {
     let masked = cleared_bits(table, a, b)?;
     let proof = rule_term(table, BIC_DEF, &[a, b])?;
@@ -164,6 +170,7 @@ fn to_zero(table: &mut Table, e: Id, a: Id) -> Result<Rewrite, Exhausted>
         → tree_at table.old a ≡ exp_encoding x
         → IfOk result (λ s. IsRewrite table.new s (cancelled_of f x)) }
     ensures extends { Extends table.old table.new }
+    ensures memory { NeverResults result }
 {
     let zero = zero_word(table)?;
     let proof = rule_term(table, XOR_SELF, &[a])?;
@@ -179,6 +186,7 @@ fn to_operand(table: &mut Table, e: Id, a: Id, number: u32) -> Result<Rewrite, E
         → tree_at table.old a ≡ exp_encoding x
         → IfOk result (λ s. IsRewrite table.new s (operand_of number f x)) }
     ensures extends { Extends table.old table.new }
+    ensures memory { NeverResults result }
 {
     let proof = rule_term(table, number, &[a])?;
     whole(table, e, a, proof)
@@ -196,6 +204,7 @@ fn regrouped(table: &mut Table, e: Id, a: Id, b: Id, c: Id) -> Result<Rewrite, E
         → tree_at table.old c ≡ exp_encoding z
         → IfOk result (λ s. IsRewrite table.new s (regrouped_of f x y z)) }
     ensures extends { Extends table.old table.new }
+    ensures memory { NeverResults result }
 {
     let sum = regrouped_sum(table, a, b, c)?;
     let proof = rule_term(table, ADD_ASSOC, &[a, b, c])?;
@@ -212,6 +221,7 @@ fn commuted(table: &mut Table, e: Id, a: Id, b: Id) -> Result<Rewrite, Exhausted
         → tree_at table.old a ≡ exp_encoding x → tree_at table.old b ≡ exp_encoding y
         → IfOk result (λ s. IsRewrite table.new s (commuted_of f x y)) }
     ensures extends { Extends table.old table.new }
+    ensures memory { NeverResults result }
 {
     let sum = swapped_sum(table, a, b)?;
     let proof = rule_term(table, ADD_COMM, &[a, b])?;
@@ -241,6 +251,7 @@ fn turned(
         → IfOk result (λ s. AreRewrites table.new s (turned x y z)) }
     ensures extends { Extends table.old table.new }
     ensures memo { IsMemo table.new memo.new }
+    ensures spends { SpendsResults table.new memo.old memo.new result }
 {
     let first = ungrouped(table, memo, e, a, b, c)?;
     let above = raised(table, memo, c)?;
@@ -274,6 +285,7 @@ fn ungrouped(
         → IfOk result (λ s. IsRewrite table.new s (ungrouped_of x y z)) }
     ensures extends { Extends table.old table.new }
     ensures memo { IsMemo table.new memo.new }
+    ensures spends { SpendsResults table.new memo.old memo.new result }
 {
     let sum = oper(table, Op::Add, a, b)?;
     let grouped = oper(table, Op::Add, sum, c)?;
@@ -298,6 +310,7 @@ fn under_left(
         → tree_at table.old above ≡ exp_encoding (up y) → IsRewrite table.old step s
         → IfOk result (λ r. IsRewrite table.new r (left_rewriting op y s)) }
     ensures extends { Extends table.old table.new }
+    ensures memory { NeverResults result }
 {
     let into = oper(table, op, step.into, above)?;
     let after = oper(table, op, step.after, right)?;
@@ -326,6 +339,7 @@ fn under_right(
         → tree_at table.old above ≡ exp_encoding (up y) → IsRewrite table.old step s
         → IfOk result (λ r. IsRewrite table.new r (right_rewriting op y s)) }
     ensures extends { Extends table.old table.new }
+    ensures memory { NeverResults result }
 {
     let into = oper(table, op, above, step.into)?;
     let after = oper(table, op, left, step.after)?;
@@ -356,6 +370,7 @@ fn all_under_left(
         → IfOk result (λ s. AreRewrites table.new s (in_left op y l)) }
     ensures extends { Extends table.old table.new }
     ensures memo { IsMemo table.new memo.new }
+    ensures spends { SpendsResults table.new memo.old memo.new result }
 {
     let above = raised(table, memo, right)?;
     match steps {
@@ -391,6 +406,7 @@ fn all_under_right(
         → IfOk result (λ s. AreRewrites table.new s (in_right op y l)) }
     ensures extends { Extends table.old table.new }
     ensures memo { IsMemo table.new memo.new }
+    ensures spends { SpendsResults table.new memo.old memo.new result }
 {
     let above = raised(table, memo, left)?;
     match steps {
@@ -431,6 +447,7 @@ fn rewrites_by(
         → IfOk result (λ s. AreRewrites table.new s (rewrite_at out op x y)) }
     ensures extends { Extends table.old table.new }
     ensures memo { IsMemo table.new memo.new }
+    ensures spends { SpendsResults table.new memo.old memo.new result }
 {
     match rule {
         Rule::Nothing => Ok(Rewrites::Nothing),
@@ -466,6 +483,7 @@ pub(crate) fn redex(
         → IfOk result (λ s. AreRewrites table.new s (redex outside x)) }
     ensures extends { Extends table.old table.new }
     ensures memo { IsMemo table.new memo.new }
+    ensures spends { SpendsResults table.new memo.old memo.new result }
 {
     match exp_node(table, e) {
         ExpNode::Apply(op, a, b) => redex_of_parts(table, memo, outside, op, e, a, b),
@@ -495,6 +513,7 @@ fn redex_of_parts(
         → IfOk result (λ s. AreRewrites table.new s (redex outside (EOp op x y))) }
     ensures extends { Extends table.old table.new }
     ensures memo { IsMemo table.new memo.new }
+    ensures spends { SpendsResults table.new memo.old memo.new result }
 {
     let left = redex(table, memo, outside, a)?;
     if has_rewrites(&left) {

@@ -118,7 +118,7 @@ fn ruled(
     known(table, b)?;
     known(table, c)?;
     known(table, d)?;
-    let mut kept = Kept::new(alloc, 1_000);
+    let mut kept = Kept::new(alloc, 0); // a rule has no limit
     roomy(by_number(
         alloc, table, sig, &mut kept, hyps, rule, a, b, c, d, p, q, r,
     ))
@@ -257,7 +257,7 @@ fn bare_sequent(
     params: &[Id],
 ) -> Read<Option<Sequent>> {
     all_known(table, params)?;
-    let mut kept = Kept::new(alloc, 1_000);
+    let mut kept = Kept::new(alloc, 0); // a rule has no limit
     roomy(by_rule(alloc, table, sig, &mut kept, &[], number, params, &[]))
 }
 
@@ -280,7 +280,7 @@ fn pair_sequent(alloc: Global, table: &mut Table, pair: u32, a: Id, b: Id) -> Re
     requires a { IsKnown table.old a }
     requires b { IsKnown table.old b }
 {
-    let mut kept = Kept::new(alloc, 1_000);
+    let mut kept = Kept::new(alloc, 0); // a rule has no limit
     roomy(cmp_le1(alloc, table, &Sigma1, &mut kept, &[], pair, a, b))
 }
 

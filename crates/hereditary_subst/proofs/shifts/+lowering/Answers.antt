@@ -7,8 +7,11 @@ pub lower_at-returns-then-is_within-clause-tree : goal.lower_at-returns-then-is_
 lower_at-returns-then-is_within-clause-tree t c =
     (c.requires.known, shift-scoped 1 c.args.x (tree_at c.args.table.now c.args.id) (c.is_within.ensures c.if-is_within.true))
 
-pub lower_parts-returns-in-Var-clause-memo : goal.lower_parts-returns-in-Var-clause-memo
-lower_parts-returns-in-Var-clause-memo t c = memo-more _ _ _ c.requires.memo c.lower_variable.ensures.extends
+pub lower_parts-returns-in_ok-lower_variable-in-Var-clause-memo : goal.lower_parts-returns-in_ok-lower_variable-in-Var-clause-memo
+lower_parts-returns-in_ok-lower_variable-in-Var-clause-memo t c = memo-more _ _ _ c.requires.memo c.lower_variable.ensures.extends
+
+pub lower_parts-returns-in_err-lower_variable-in-Var-clause-memo : goal.lower_parts-returns-in_err-lower_variable-in-Var-clause-memo
+lower_parts-returns-in_err-lower_variable-in-Var-clause-memo t c = memo-more _ _ _ c.requires.memo c.lower_variable.ensures.extends
 
 pub lower_parts-returns-in_ok-intern-in-App-clause-memo : goal.lower_parts-returns-in_ok-intern-in-App-clause-memo
 lower_parts-returns-in_ok-intern-in-App-clause-memo t c = memo-more _ _ _ c.in_ok-b-in-App.ensures.memo c.in_ok-intern-in-App.ensures.extends

@@ -7,8 +7,11 @@ pub shift_at-returns-then-is_within-clause-tree : goal.shift_at-returns-then-is_
 shift_at-returns-then-is_within-clause-tree t c =
     (c.requires.known, shifted_scoped c.args.by c.args.from (tree_at c.args.table.now c.args.id) (c.laws.ensures.small c.args.id c.requires.known) (c.is_within.ensures c.if-is_within.true))
 
-pub shift_parts-returns-in-Var-clause-memo : goal.shift_parts-returns-in-Var-clause-memo
-shift_parts-returns-in-Var-clause-memo t c = memo-more _ _ _ c.requires.memo c.shift_variable.ensures.extends
+pub shift_parts-returns-in_ok-shift_variable-in-Var-clause-memo : goal.shift_parts-returns-in_ok-shift_variable-in-Var-clause-memo
+shift_parts-returns-in_ok-shift_variable-in-Var-clause-memo t c = memo-more _ _ _ c.requires.memo c.shift_variable.ensures.extends
+
+pub shift_parts-returns-in_err-shift_variable-in-Var-clause-memo : goal.shift_parts-returns-in_err-shift_variable-in-Var-clause-memo
+shift_parts-returns-in_err-shift_variable-in-Var-clause-memo t c = memo-more _ _ _ c.requires.memo c.shift_variable.ensures.extends
 
 pub shift_parts-returns-in_ok-intern-in-App-clause-memo : goal.shift_parts-returns-in_ok-intern-in-App-clause-memo
 shift_parts-returns-in_ok-intern-in-App-clause-memo t c = memo-more _ _ _ c.in_ok-b-in-App.ensures.memo c.in_ok-intern-in-App.ensures.extends

@@ -23,7 +23,7 @@ reduce_at-returns-in_default t c =
       tree = λ acc. reduce_other (erase (tree_at t₀ c.args.u)) (tree_at t₀ c.args.g) (tree_at t₀ c.args.b) acc (no_lam c.node.result t₀ (tree_at t₀ c.args.g) c.node.ensures.tree c.in_default.not-Lam);
       extends = search rules;
       memo = c.requires.memo;
-      left = omega arith;
+      spends = (refl, omega arith, search rules);
     }
 
 pub subst_under-returns-in-Some-clause-tree : goal.subst_under-returns-in-Some-clause-tree
@@ -82,11 +82,14 @@ subst_at-returns-in-Ok-Some t c =
       tree = head_result c.args.ty (erase (tree_at t₀ c.args.ty)) (tree_at t₀ c.args.m) c.args.x (tree_at t₀ c.args.id) c.head_at.new.table c.in-Ok-Some.atom h;
       extends = c.in-Ok-Some.ensures.extends;
       memo = c.in-Ok-Some.ensures.memo;
-      left = c.in-Ok-Some.ensures.left;
+      spends = c.in-Ok-Some.ensures.spends;
     }
 
-pub head_at-returns-in-Var-clause-memo : goal.head_at-returns-in-Var-clause-memo
-head_at-returns-in-Var-clause-memo t c = memo-more _ _ _ c.requires.memo c.head_variable.ensures.extends
+pub head_at-returns-in_ok-head_variable-in-Var-clause-memo : goal.head_at-returns-in_ok-head_variable-in-Var-clause-memo
+head_at-returns-in_ok-head_variable-in-Var-clause-memo t c = memo-more _ _ _ c.requires.memo c.head_variable.ensures.extends
+
+pub head_at-returns-in_err-head_variable-in-Var-clause-memo : goal.head_at-returns-in_err-head_variable-in-Var-clause-memo
+head_at-returns-in_err-head_variable-in-Var-clause-memo t c = memo-more _ _ _ c.requires.memo c.head_variable.ensures.extends
 
 pub head_parts-returns-in_ok-term-in-Ok-Some-None-clause-memo : goal.head_parts-returns-in_ok-term-in-Ok-Some-None-clause-memo
 head_parts-returns-in_ok-term-in-Ok-Some-None-clause-memo t c = memo-more _ _ _ c.in-Ok-Some-None.ensures.memo c.in_ok-term-in-Ok-Some-None.ensures.extends

@@ -25,7 +25,7 @@ check_at-returns-then-is_atomic_type g t c =
     ∙ ap (λ z. atom_rule z (Some (tree_at t₁ c.in-Some.p))) ka
     ∙ ap (atom_rule (tree_at t₀ c.args.a)) (sym syn.1)
     ∙ sym (checks_atom sig t₀ ctx c.node.result m (tree_at t₀ c.args.a) e c.in_default.not-Lam) in
-    record { answer = answer; extends = x; kept = c.in_ok-synth_at.ensures.kept }
+    record { answer = answer; extends = x; kept = c.in_ok-synth_at.ensures.kept; spends = c.in_ok-synth_at.ensures.spends }
 
 pub under_at-keep-requires-clause-judges : goal.under_at-keep-requires-clause-judges
 under_at-keep-requires-clause-judges g k c =

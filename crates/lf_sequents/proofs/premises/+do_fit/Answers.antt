@@ -19,7 +19,7 @@ do_fit-requires t c =
     let parts : c.args.premises.now ≡ c.premise-item.result ∷ take (length c.args.premises.now - 1) (drop 1 c.args.premises.now) = parted c.args.premises.now c.premise-item.result c.premise-item.result c.in-len1-up-premises.len_at_least c.premise-item.is in
     let known = subst (λ l. AreOfTable t₀ (sequents_of l)) parts c.requires.premises in
     let x : Extends t₀ t₁ = c.in_ok-fits-in-len1-up-premises.ensures.extends in
-    (omega (arith, ap length rows, c.decreases), (known-more t₀ t₁ c.args.params.now c.requires.params x, (placeds-more t₀ t₁ _ known.1 x, c.in_ok-fits-in-len1-up-premises.ensures.kept)))
+    (omega (arith, ap length rows, c.decreases), (known-more t₀ t₁ c.args.params.now c.requires.params x, (placeds-more t₀ t₁ _ known.1 x, (c.in_ok-fits-in-len1-up-premises.ensures.kept, c.in_ok-fits-in-len1-up-premises.ensures.unlimited))))
 
 pub returns-else-not-branch-clause-answer : goal.returns-else-not-branch-clause-answer
 returns-else-not-branch-clause-answer t c =

@@ -1,4 +1,4 @@
-use Rattle.std.proofs.Common.{◌≡◌, true, IfOk, sym, ◌∙◌, ap, subst, arith}
+use Rattle.std.proofs.Common.{◌≡◌, true, IfOk, sym, ◌∙◌, ap, subst, arith, refl}
 use Rattle.term_table.specs.Table.{IsKnown}
 use Rattle.formula_tree.specs.Formulas.{Exp}
 use Rattle.lf_terms.specs.Encoding.{exp_encoding}
@@ -11,6 +11,7 @@ use Rattle.prover_bounds.specs.declared.parts.How.TheVariants.{AndLeft, AndRight
 use Rattle.prover_bounds.specs.BoundIds.{IsWordBound}
 use Rattle.prover_bounds.specs.Candidates.{by_parts, by_side, by_left, by_right_shift, by_left_shift, by_sum, by_difference}
 use Rattle.prover_bounds.proofs.BoundRows.{bound-more, bound_is, bounds-more, if_ok}
+use Rattle.hereditary_subst.proofs.Limits.{never-spent}
 use Rattle.prover_bounds.proofs.best_bounds.+bounding.Goals as goal
 
 pub best_bound-keep-requires-clause-is : goal.best_bound-keep-requires-clause-is
@@ -180,3 +181,54 @@ made_by_parts-returns-in_ok-v-in-Cleared-clause-exact t c = λ Γ x g q.
     let is : by_side 97 x p.left p.right p.left (upper_bound Γ p.left) ≡ by_parts Γ x Cleared = ap (λ (z : Exp). by_side 97 z p.left p.right p.left (upper_bound Γ p.left)) p.is ∙ sym (ap (λ (z : Exp). by_parts Γ z Cleared) p.is) in
     subst (λ (h : How). IfOk c.by_side-in-Cleared.result (IsWordBound c.by_side-in-Cleared.new.table (by_parts Γ x h))) (sym c.in-Cleared.is)
     (subst (λ (b : WordBound). IfOk c.by_side-in-Cleared.result (IsWordBound c.by_side-in-Cleared.new.table b)) (ap (by_side 97 x p.left p.right p.left) (bound_is v) ∙ is) made)
+
+pub made-returns-in-Limit-clause-spends : goal.made-returns-in-Limit-clause-spends
+made-returns-in-Limit-clause-spends t c = (refl, omega arith, never-spent c.limit.new.table c.args.memo.now c.limit.result c.limit.ensures.memory)
+
+pub made-returns-in-Itself-clause-spends : goal.made-returns-in-Itself-clause-spends
+made-returns-in-Itself-clause-spends t c = (refl, omega arith, never-spent c.by_itself.new.table c.args.memo.now c.by_itself.result c.by_itself.ensures.memory)
+
+pub made_by_parts-returns-in-Capped-clause-spends : goal.made_by_parts-returns-in-Capped-clause-spends
+made_by_parts-returns-in-Capped-clause-spends t c =
+    (refl, omega arith, never-spent c.by_ceiling.new.table c.args.memo.now c.by_ceiling.result c.by_ceiling.ensures.memory)
+
+pub made_by_parts-returns-in_ok-w-in-AndRight-clause-spends : goal.made_by_parts-returns-in_ok-w-in-AndRight-clause-spends
+made_by_parts-returns-in_ok-w-in-AndRight-clause-spends t c =
+    let w = c.in_ok-w-in-AndRight.ensures.spends in
+    (w.0, w.1, never-spent c.by_side.new.table c.best_bound-in-AndRight.new.memo c.by_side.result c.by_side.ensures.memory)
+
+pub made_by_parts-returns-in_ok-v-in-Cleared-clause-spends : goal.made_by_parts-returns-in_ok-v-in-Cleared-clause-spends
+made_by_parts-returns-in_ok-v-in-Cleared-clause-spends t c =
+    let v = c.in_ok-v-in-Cleared.ensures.spends in
+    (v.0, v.1, never-spent c.by_side-in-Cleared.new.table c.best_bound-in-Cleared.new.memo c.by_side-in-Cleared.result c.by_side-in-Cleared.ensures.memory)
+
+pub made_by_parts-returns-in_ok-v-in-AndLeft-clause-spends : goal.made_by_parts-returns-in_ok-v-in-AndLeft-clause-spends
+made_by_parts-returns-in_ok-v-in-AndLeft-clause-spends t c =
+    let v = c.in_ok-v-in-AndLeft.ensures.spends in
+    let made = c.by_left.ensures.spends in
+    (made.0 ∙ v.0, omega (arith, v.1, made.1), made.2)
+
+pub made_by_parts-returns-in_ok-v-in-ShiftRight-clause-spends : goal.made_by_parts-returns-in_ok-v-in-ShiftRight-clause-spends
+made_by_parts-returns-in_ok-v-in-ShiftRight-clause-spends t c =
+    let v = c.in_ok-v-in-ShiftRight.ensures.spends in
+    let made = c.by_right_shift.ensures.spends in
+    (made.0 ∙ v.0, omega (arith, v.1, made.1), made.2)
+
+pub made_by_parts-returns-in_ok-v-in-ShiftLeft-clause-spends : goal.made_by_parts-returns-in_ok-v-in-ShiftLeft-clause-spends
+made_by_parts-returns-in_ok-v-in-ShiftLeft-clause-spends t c =
+    let v = c.in_ok-v-in-ShiftLeft.ensures.spends in
+    let made = c.by_left_shift.ensures.spends in
+    (made.0 ∙ v.0, omega (arith, v.1, made.1), made.2)
+
+pub made_by_parts-returns-in_ok-v-in-Difference-clause-spends : goal.made_by_parts-returns-in_ok-v-in-Difference-clause-spends
+made_by_parts-returns-in_ok-v-in-Difference-clause-spends t c =
+    let v = c.in_ok-v-in-Difference.ensures.spends in
+    let made = c.by_difference.ensures.spends in
+    (made.0 ∙ v.0, omega (arith, v.1, made.1), made.2)
+
+pub made_by_parts-returns-in_ok-w-in-Sum-clause-spends : goal.made_by_parts-returns-in_ok-w-in-Sum-clause-spends
+made_by_parts-returns-in_ok-w-in-Sum-clause-spends t c =
+    let v = c.in_ok-v-in-Sum.ensures.spends in
+    let w = c.in_ok-w-in-Sum.ensures.spends in
+    let made = c.by_sum.ensures.spends in
+    (made.0 ∙ w.0 ∙ v.0, omega (arith, v.1, w.1, made.1), made.2)

@@ -1,4 +1,4 @@
-use Rattle.std.proofs.Common.{◌≡◌, IfOk, ℕ, ◌<◌, length, get_or, List, drop, [], ◌∷◌, sym, ◌∙◌, ap, subst, arith}
+use Rattle.std.proofs.Common.{◌≡◌, IfOk, ℕ, ◌<◌, length, get_or, List, drop, [], ◌∷◌, sym, ◌∙◌, ap, subst, arith, refl}
 use Rattle.term_table.specs.Table.{TableView, IsKnown, tree_at}
 use Rattle.prover_ids.specs.declared.hypotheses.Hypothesis.{Hypothesis}
 use Rattle.prover_ids.specs.Hypotheses.{AreKnownHyps}
@@ -7,6 +7,7 @@ use Rattle.prover_bounds.specs.BoundIds.{IsWordBound}
 use Rattle.prover_bounds.specs.Candidates.{by_relation}
 use Rattle.prover_bounds.specs.Choices.{by_first, IsRelated}
 use Rattle.prover_bounds.proofs.Scans.{IsHypAt, hyp_at, hyp_known, dropped, first_is}
+use Rattle.hereditary_subst.proofs.Limits.{never-spent}
 use Rattle.prover_bounds.proofs.relations.by_hypothesis.Goals as goal
 
 pub returns-then-hyps-at-clause-is : goal.returns-then-hyps-at-clause-is
@@ -50,3 +51,10 @@ returns-in_ok-word-in-Some-clause-is c = λ Γ x g q.
     let proof : tree_at c.word.new.table h.proof ≡ i.now.1 = e.same h.proof old ∙ i.proof in
     subst (λ (w : WordBound). IfOk c.by_relation.result (IsWordBound c.by_relation.new.table w)) (ap (by_relation s r.kind x r.value) proof ∙ sym first)
     (c.by_relation.ensures.is x (e.same c.args.e c.requires.e ∙ q) c.in_ok-word-in-Some.ensures.known.is)
+
+pub returns-then-hyps-at-clause-spends : goal.returns-then-hyps-at-clause-spends
+returns-then-hyps-at-clause-spends c = (refl, omega arith, never-spent c.limit.new.table c.args.memo.now c.limit.result c.limit.ensures.memory)
+
+pub returns-in-None-clause-spends : goal.returns-in-None-clause-spends
+returns-in-None-clause-spends c =
+    (refl, omega arith, never-spent c.limit-in-None.new.table c.args.memo.now c.limit-in-None.result c.limit-in-None.ensures.memory)

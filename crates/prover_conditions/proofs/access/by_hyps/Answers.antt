@@ -39,6 +39,8 @@ loop-i-preserved c =
     record {
       extends = twice before.extends done.extends;
       after = after_twice t u c.loop-i.search c.by_hyp.new.search n d c.by_hyp.new.context before.after done.after;
+      limited = done.spends.0 ∙ before.limited;
+      left = omega (arith, done.spends.1, before.left);
       none = λ Γ a g qa.
           let h = hyps_then s t c.loop-i.search n d Γ c.requires.context before.extends before.after g in
           let within : i < length d.hyps = omega (arith, c.loop-i-test.true, ap length c.as_slice-count.ensures, ap length before.after.hyps) in

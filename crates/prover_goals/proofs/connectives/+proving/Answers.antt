@@ -1,4 +1,4 @@
-use Rattle.std.proofs.Common.{◌≡◌, ℕ, ◌<◌, Option, None, [], ◌∷◌, sym, ◌∙◌, ap, subst, arith}
+use Rattle.std.proofs.Common.{◌≡◌, ℕ, ◌<◌, Option, None, [], ◌∷◌, sym, ◌∙◌, ap, subst, arith, refl}
 use Rattle.term_table.specs.Tree.{shift}
 use Rattle.term_table.specs.Table.{tree_at}
 use Rattle.term_table.specs.Measures.{height_of}
@@ -13,6 +13,7 @@ use Rattle.prover_hyps.proofs.AlignmentRows.{stands_at}
 use Rattle.prover_goals.proofs.Kept.{search-more, context-more}
 use Rattle.prover_goals.proofs.WordRows.{after_now, with_memo}
 use Rattle.prover_goals.proofs.Connecting.{by_all, by_all_memories, by_leaf, falsity-left, relation-left, right-left, both_some, either_right, implication_is, over_is, hypothesis_is, falsity_is, shape_is, height-shift, not_there}
+use Rattle.hereditary_subst.proofs.Limits.{never-spent}
 use Rattle.prover_goals.proofs.connectives.+proving.Goals as goal
 
 pub goal_proof-keep_answer-requires-clause-proof :
@@ -143,3 +144,32 @@ unkept_proof-returns-clause-exact g t c =
     shape_is (prover_of (g.L.Leaf.by a.leaf.now)) a.table.now n.new.table a.context.now.hyps a.context.now.outside a.goal a.context.now.absurd n.result (not_there a.context.now.absurd c.in_default-absurd.not-Some) c.requires.context.absurd
     (λ Γ A h q. stands_at a.table.now (find_hyp Γ A) c.find_hyp.result None (not_there c.find_hyp.result c.in_default.not-Some) (c.find_hyp.ensures.exact Γ A h q))
     n.ensures.exact
+
+pub proof_by_shape-returns-in-True-clause-spends : goal.proof_by_shape-returns-in-True-clause-spends
+proof_by_shape-returns-in-True-clause-spends g t c =
+    (refl, omega arith, never-spent c.truth.new.table c.args.search.now.memo c.truth.result c.truth.ensures.memory)
+
+pub proof_of_both-returns-in_ok-right-in-Some-clause-spends : goal.proof_of_both-returns-in_ok-right-in-Some-clause-spends
+proof_of_both-returns-in_ok-right-in-Some-clause-spends g t c =
+    let l = c.in_ok-goal_proof.ensures.spends in
+    let r = c.in_ok-right-in-Some.ensures.spends in
+    (r.0 ∙ l.0, omega (arith, l.1, r.1), never-spent c.both.new.table c.goal_proof-in-Some.new.search.memo c.both.result c.both.ensures.memory)
+
+pub proof_of_either-returns-clause-spends : goal.proof_of_either-returns-clause-spends
+proof_of_either-returns-clause-spends g t c =
+    let l = c.in_ok-left.ensures.spends in
+    let r = c.in_ok-right.ensures.spends in
+    (r.0 ∙ l.0, omega (arith, l.1, r.1), never-spent c.joined-2.new.table c.goal_proof-2.new.search.memo c.joined-2.result c.joined-2.ensures.memory)
+
+pub proof_of_implication-returns-clause-spends : goal.proof_of_implication-returns-clause-spends
+proof_of_implication-returns-clause-spends g t c =
+    let h = c.in_ok-under.ensures.spends in
+    let r = c.in_ok-goal.ensures.spends in
+    let o = c.in_ok-proof.ensures.spends in
+    (o.0 ∙ r.0 ∙ h.0, omega (arith, h.1, r.1, o.1), never-spent c.implied.new.table c.goal_proof.new.search.memo c.implied.result c.implied.ensures.memory)
+
+pub proof_for_all-returns-clause-spends : goal.proof_for_all-returns-clause-spends
+proof_for_all-returns-clause-spends g t c =
+    let h = c.in_ok-under.ensures.spends in
+    let o = c.in_ok-proof.ensures.spends in
+    (o.0 ∙ h.0, omega (arith, h.1, o.1), never-spent c.generalized.new.table c.goal_proof.new.search.memo c.generalized.result c.generalized.ensures.memory)

@@ -11,6 +11,7 @@ use Rattle.prover_ids.proofs.HypRows.{known_hyps-more, hyps-after}
 use Rattle.prover_goals.proofs.AnswerRows.{under_hypothesis_made}
 use Rattle.prover_goals.proofs.Kept.{search-more}
 use Rattle.prover_goals.proofs.WordRows.{on_ok, with_memo}
+use Rattle.hereditary_subst.proofs.Limits.{never-spent}
 use Rattle.prover_goals.proofs.contexts.under_hypothesis.Goals as goal
 
 pub add_split-requires-clause-hyps : goal.add_split-requires-clause-hyps
@@ -46,3 +47,10 @@ returns-clause-search c =
     let s = with_memo t v.table c.spend_terms.new.self v.memo (c.spend_terms.ensures.search _ c.requires.search) x c.in_ok-form.ensures.memo in
     let y : Extends v.table c.new.new.table = twice c.in_ok-proof.ensures.extends (twice c.in_ok-add_split.ensures.extends c.new.ensures.extends) in
     on_ok c.new.result (search-more _ v.table c.new.new.table s y)
+
+pub returns-clause-spends : goal.returns-clause-spends
+returns-clause-spends c =
+    let s = c.in_ok-spend_terms.ensures.spends in
+    let h = c.in_ok-hyps.ensures.spends in
+    let f = c.in_ok-form.ensures.spends in
+    (f.0 ∙ h.0 ∙ s.0, omega (arith, s.1, h.1, f.1), never-spent c.new.new.table c.raised.new.memo c.new.result c.new.ensures.memory)

@@ -1,4 +1,4 @@
-use Rattle.std.proofs.Common.{IfSome, ◌∙◌, subst}
+use Rattle.std.proofs.Common.{IfSome, ◌∙◌, subst, arith}
 use Rattle.hereditary_subst.proofs.Rows.{grows_more}
 use Rattle.prover_class.specs.NormalForms.{redex, normalized}
 use Rattle.prover_forms.proofs.Rounds.{leads_next, leads_stop, leads_end}
@@ -32,6 +32,8 @@ loop-round-preserved c =
     let next = c.in-Some.next in record {
       extends = grows_more c.args.table.now t u i.extends c.in_ok-next.ensures.extends;
       memo = c.in_ok-next.ensures.memo;
+      limited = c.in_ok-next.ensures.spends.0 ∙ i.limited;
+      left = omega (arith, c.in_ok-next.ensures.spends.1, i.left);
       known = subst (λ o. IfSome o (IsKnownRewritten u)) c.in-Some.is c.in_ok-next.ensures.known;
       leads = λ x r q h.
           let above = i.extends.same c.args.above c.requires.above ∙ q in

@@ -1,6 +1,7 @@
-use Rattle.std.proofs.Common.{◌≡◌, ◌-◌}
+use Rattle.std.proofs.Common.{◌≡◌, ◌≤◌, ◌-◌}
 use Rattle.term_table.specs.Table.{tree_at, Extends}
 use Rattle.hereditary_subst.specs.Kept.{IsMemo}
+use Rattle.hereditary_subst.specs.Limits.{is_limited, left_of}
 use Rattle.formula_tree.specs.Formulas.{Exp}
 use Rattle.lf_terms.specs.Encoding.{exp_encoding}
 use Rattle.lf_terms.specs.ProofTerms.{up}
@@ -13,6 +14,8 @@ abbrev pub invariant-loop-round : goal.invariant-loop-round
 invariant-loop-round l = record {
   extends : Extends l.fn.table l.table;
   memo : IsMemo l.table l.memo;
+  limited : is_limited l.memo ≡ is_limited l.fn.memo;
+  left : left_of l.memo ≤ left_of l.fn.memo;
   known : IsKnownRewritten l.table (pair_of l.now l.proof);
   leads : (x : Exp) (r : RewrittenExp) → tree_at l.fn.table l.above ≡ exp_encoding (up x) → IsRewritten l.fn.table l.fn.start r
       → LeadsTo (IsRewritten l.table (pair_of l.now l.proof)) l.outside (l.rounds - l.round) x (normalized l.outside l.rounds x r);

@@ -1,6 +1,7 @@
 use Rattle.prover_sums.proofs.Rewrites.{ungrouped_is}
 use Rattle.hereditary_subst.proofs.Rows.{known-more, memo-more}
 use Rattle.prover_ids.proofs.Standing.{twice}
+use Rattle.hereditary_subst.proofs.Limits.{never-spent}
 use Rattle.prover_sums.proofs.rewriting.ungrouped.Goals as goal
 
 pub returns-clause-exact : goal.returns-clause-exact
@@ -56,3 +57,8 @@ returns-clause-extends c = twice (twice (twice (twice c.in_ok-sum.ensures.extend
 
 pub returns-clause-memo : goal.returns-clause-memo
 returns-clause-memo c = memo-more _ _ _ c.in_ok-proof.ensures.memo c.whole.ensures.extends
+
+pub returns-clause-spends : goal.returns-clause-spends
+returns-clause-spends c =
+    let s = c.in_ok-proof.ensures.spends in
+    (s.0, s.1, never-spent c.whole.new.table c.swapped.new.memo c.whole.result c.whole.ensures.memory)
