@@ -6,10 +6,6 @@ use Rattle.hereditary_subst.specs.declared.kept.Memo.{Memo}
 use Rattle.hereditary_subst.specs.declared.exhausted.Exhausted.{Exhausted}
 use Rattle.hereditary_subst.specs.declared.exhausted.Exhausted.TheVariants.{Results}
 
-pub charge-more : (b : Bool) (m n : ℕ) → cond b (m + n) 0 ≡ cond b m 0 + cond b n 0
-charge-more true m n = refl
-charge-more false m n = refl
-
 pub charge-up : (b : Bool) (m n : ℕ) → m ≤ n → cond b m 0 ≤ cond b n 0
 charge-up true m n h = h
 charge-up false m n h = omega arith
@@ -17,6 +13,10 @@ charge-up false m n h = omega arith
 pub charge-none : (b : Bool) (n : ℕ) → n ≡ 0 → cond b n 0 ≡ 0
 charge-none true n h = h
 charge-none false n h = refl
+
+pub charge-within : (b : Bool) (x y n : ℕ) → x ≤ y → (b ≡ true → x + n ≤ y) → x + cond b n 0 ≤ y
+charge-within true x y n h k = k refl
+charge-within false x y n h k = h
 
 -- a call without a memo, as the last
 pub never-spent : {A : Type 0} (t : TableView) (m : Memo) (r : Result A Exhausted) → NeverResults r → IfErr r (λ e. e ≡ Results → IsSpent t m)
