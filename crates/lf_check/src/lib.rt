@@ -8,9 +8,9 @@
 //!
 //! No shared term is checked twice if the variables that it uses have equal types: `Kept` caches
 //! the judgements, and can be passed from call to call on one table and signature. It may have one
-//! limit for all that it caches; past it a call returns `Exhausted::Results`, and without it no call
-//! does. Its `memo` can be lent to other calls on the table. Source: Harper and Licata, Mechanizing Metatheory in a Logical
-//! Framework, JFP 2007, section 2.
+//! limit for all that it caches; past it a call returns `Exhausted::Results`, and without it no
+//! call does. Its `memo` can be lent to other calls on the table. Source: Harper and Licata,
+//! Mechanizing Metatheory in a Logical Framework, JFP 2007, section 2.
 #![tactic(auto)]
 
 mod contexts;

@@ -189,7 +189,8 @@ pub made-returns-in-Itself-clause-spends : goal.made-returns-in-Itself-clause-sp
 made-returns-in-Itself-clause-spends t c = (refl, omega arith, never-spent c.by_itself.new.table c.args.memo.now c.by_itself.result c.by_itself.ensures.memory)
 
 pub made_by_parts-returns-in-Capped-clause-spends : goal.made_by_parts-returns-in-Capped-clause-spends
-made_by_parts-returns-in-Capped-clause-spends t c = (refl, omega arith, never-spent c.by_ceiling.new.table c.args.memo.now c.by_ceiling.result c.by_ceiling.ensures.memory)
+made_by_parts-returns-in-Capped-clause-spends t c =
+    (refl, omega arith, never-spent c.by_ceiling.new.table c.args.memo.now c.by_ceiling.result c.by_ceiling.ensures.memory)
 
 pub made_by_parts-returns-in_ok-w-in-AndRight-clause-spends : goal.made_by_parts-returns-in_ok-w-in-AndRight-clause-spends
 made_by_parts-returns-in_ok-w-in-AndRight-clause-spends t c =

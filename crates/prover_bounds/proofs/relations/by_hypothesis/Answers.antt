@@ -56,4 +56,5 @@ pub returns-then-hyps-at-clause-spends : goal.returns-then-hyps-at-clause-spends
 returns-then-hyps-at-clause-spends c = (refl, omega arith, never-spent c.limit.new.table c.args.memo.now c.limit.result c.limit.ensures.memory)
 
 pub returns-in-None-clause-spends : goal.returns-in-None-clause-spends
-returns-in-None-clause-spends c = (refl, omega arith, never-spent c.limit-in-None.new.table c.args.memo.now c.limit-in-None.result c.limit-in-None.ensures.memory)
+returns-in-None-clause-spends c =
+    (refl, omega arith, never-spent c.limit-in-None.new.table c.args.memo.now c.limit-in-None.result c.limit-in-None.ensures.memory)

@@ -146,7 +146,8 @@ unkept_proof-returns-clause-exact g t c =
     n.ensures.exact
 
 pub proof_by_shape-returns-in-True-clause-spends : goal.proof_by_shape-returns-in-True-clause-spends
-proof_by_shape-returns-in-True-clause-spends g t c = (refl, omega arith, never-spent c.truth.new.table c.args.search.now.memo c.truth.result c.truth.ensures.memory)
+proof_by_shape-returns-in-True-clause-spends g t c =
+    (refl, omega arith, never-spent c.truth.new.table c.args.search.now.memo c.truth.result c.truth.ensures.memory)
 
 pub proof_of_both-returns-in_ok-right-in-Some-clause-spends : goal.proof_of_both-returns-in_ok-right-in-Some-clause-spends
 proof_of_both-returns-in_ok-right-in-Some-clause-spends g t c =
