@@ -176,8 +176,8 @@ pub fn prove(alloc: Global, policy: &Policy, bytes: &[u8]) -> Result<Vec<u8>, Pr
     prove_within(alloc, true, policy, bytes)
 }
 
-/// Encodes the container in `bytes` with a proof, as `prove` does, with the limits on what is cached
-/// if `limited`, and else without any.
+/// Encodes the container in `bytes` with a proof, as `prove` does, with the limits on what is
+/// cached if `limited`, and else without any.
 ///
 /// Errors: as `prove`; `Results` only under the limits.
 pub fn prove_within(

@@ -140,8 +140,8 @@ impl Memo {
         }
     }
 
-    /// Returns an empty memo, with a limit of `most` results if `limited`, as `new`, and else without
-    /// one.
+    /// Returns an empty memo, with a limit of `most` results if `limited`, as `new`, and else
+    /// without one.
     pub fn within(alloc: Global, limited: bool, most: usize) -> Memo
         ensures memo { (t : TableView) → IsMemo t result }
         ensures limited { is_limited result ≡ limited }

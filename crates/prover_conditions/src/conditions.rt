@@ -101,8 +101,8 @@ pub fn condition_in(
 /// and the policy's formulas are those of profile 1 and the invariants check over it. The table
 /// gives its weight and height (`Table::weight`, `Table::height`).
 ///
-/// Errors: out of memory, and, if `limited`, `Results` if the results that the search caches and the
-/// terms that it builds are more than `MOST_SEARCHED`, or as `condition_in`.
+/// Errors: out of memory, and, if `limited`, `Results` if the results that the search caches and
+/// the terms that it builds are more than `MOST_SEARCHED`, or as `condition_in`.
 pub fn prove_condition(
     table: &mut Table,
     limited: bool,

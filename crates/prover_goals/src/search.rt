@@ -50,8 +50,8 @@ impl Search {
         Search::within(table, true, most)
     }
 
-    /// Returns empty caches, with a limit of `most` results if `limited`, as `new`, and else without
-    /// one.
+    /// Returns empty caches, with a limit of `most` results if `limited`, as `new`, and else
+    /// without one.
     pub fn within(table: &Table, limited: bool, most: usize) -> Search
         ensures search { (t : TableView) → IsSearch t result }
         ensures limited { is_limited result.memo ≡ limited }

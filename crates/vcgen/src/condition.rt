@@ -217,8 +217,8 @@ pub fn vc(
     vc_within(table, true, cut, policy, invs, bound)
 }
 
-/// Builds the encoding of the verification condition, as `vc` does, with the limit on cached results
-/// if `limited`, and else without one.
+/// Builds the encoding of the verification condition, as `vc` does, with the limit on cached
+/// results if `limited`, and else without one.
 ///
 /// Errors: as `vc`; `Results` only under the limit.
 pub fn vc_within(

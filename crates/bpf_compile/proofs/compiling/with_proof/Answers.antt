@@ -7,7 +7,8 @@ unreachable-requires c =
     let program = c.args.program.now in
     no-fault program _ (c.laws-2.ensures.plain program c.requires.program)
     (at-program program c.args.policy.now c.args.bytes.now c.requires.policy c.requires.bare _
-    (fault-given c.args.policy.now c.args.bytes.now c.prove_within.result c.in-Err-At.field-0 _ c.in-Err-At.is c.in-Err-At.field-0-is c.prove_within.ensures.exact))
+    (fault-given c.args.policy.now c.args.bytes.now
+    c.prove_within.result c.in-Err-At.field-0 _ c.in-Err-At.is c.in-Err-At.field-0-is c.prove_within.ensures.exact))
 
 pub returns-in-Ok-clause-made : goal.returns-in-Ok-clause-made
 returns-in-Ok-clause-made c =
