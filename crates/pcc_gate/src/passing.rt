@@ -214,8 +214,8 @@ fn good_lemmas<'b>(
 /// points. If the proof is then replaced, only the new proof may fail. If not `limited`, the cache
 /// has no limit.
 ///
-/// Errors: `Refused` names the first of these checks that fails, exactly if one does; `Memory` as in
-/// `front`, and, if `limited`, `Results`.
+/// Errors: `Refused` names the first of these checks that fails, exactly if one does; `Memory` as
+/// in `front`, and, if `limited`, `Results`.
 pub fn front_with_lemmas<'b>(
     alloc: Global,
     limited: bool,
