@@ -14,7 +14,7 @@ ghost use Rattle.view_goal_text.specs.Hints.{missing_lines, bounds_label, like_l
 ghost use Rattle.view_goal_text.specs.Hints.{goal_hint};
 ghost use Rattle.view_goal_text.specs.Inside.FormTerms.{IsFormTerm, AreFormTerms};
 ghost use Rattle.view_goal_text.specs.Inside.Shown.{AreKnownLines, AreAdded};
-ghost use Rattle.hereditary_subst.specs.Limits.{Spends};
+ghost use Rattle.hereditary_subst.specs.Limits.{SpendsResults};
 
 use crate::labels::{bounds_label, label_of};
 use crate::lines::{ShownLine, push_formula, push_words};
@@ -169,7 +169,7 @@ pub(crate) fn push_hint(
     ensures known { OnOk result (AreKnownLines table.new lines.new.items) }
     ensures extends { Extends table.old table.new }
     ensures search { OnOk result (IsSearch table.new search.new) }
-    ensures spends { Spends table.new search.old.memo search.new.memo result }
+    ensures spends { SpendsResults table.new search.old.memo search.new.memo result }
 {
     let missing = missing_of(table, search, bound.is_some(), known, goal)?;
     push_missing(table, bound, lines, missing.part, goal)?;

@@ -13,7 +13,7 @@ ghost use Rattle.view_goal_text.specs.Listing.{view_lines};
 ghost use Rattle.view_goal_text.specs.Inside.FormTerms.{IsFormTerm, AreFormRows};
 ghost use Rattle.view_goal_text.specs.Inside.Shown.{AreKnownLines, AreAdded};
 ghost use Rattle.view_goal_text.specs.Inside.Printed.{IsPartPrinted, ArePartsPrinted};
-ghost use Rattle.hereditary_subst.specs.Limits.{Spends};
+ghost use Rattle.hereditary_subst.specs.Limits.{SpendsResults};
 
 use crate::labels::{label_of, title_label};
 use crate::lines::{ShownLine, push_formula, push_words};
@@ -58,7 +58,7 @@ fn push_view(
     ensures known { OnOk result (AreKnownLines table.new lines.new.items) }
     ensures extends { Extends table.old table.new }
     ensures search { OnOk result (IsSearch table.new search.new) }
-    ensures spends { Spends table.new search.old.memo search.new.memo result }
+    ensures spends { SpendsResults table.new search.old.memo search.new.memo result }
 {
     let alloc = table.allocator();
     let title = title_label(alloc, number, part.at)?;
@@ -87,7 +87,7 @@ fn push_part(
     ensures known { OnOk result (AreKnownLines table.new lines.new.items) }
     ensures extends { Extends table.old table.new }
     ensures search { OnOk result (IsSearch table.new search.new) }
-    ensures spends { Spends table.new search.old.memo search.new.memo result }
+    ensures spends { SpendsResults table.new search.old.memo search.new.memo result }
 {
     let marks = marks_of(table, search, bound.is_some(), part)?;
     push_view(table, search, bound, lines, number, part, marks.as_slice())?;
@@ -119,7 +119,7 @@ pub(crate) fn push_parts(
         (ArePartsPrinted bound from table.old table.new rest lines.old.items lines.new.items) }
     ensures known { OnOk result (AreKnownLines table.new lines.new.items) }
     ensures extends { Extends table.old table.new }
-    ensures spends { Spends table.new search.old.memo search.new.memo result }
+    ensures spends { SpendsResults table.new search.old.memo search.new.memo result }
 {
     if from == parts.len() {
         return Ok(None);

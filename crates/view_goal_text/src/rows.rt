@@ -15,7 +15,7 @@ ghost use Rattle.view_goal_text.specs.Listing.{known_after, row_lines};
 ghost use Rattle.view_goal_text.specs.Inside.FormTerms.{IsFormTerm, AreFormTerms};
 ghost use Rattle.view_goal_text.specs.Inside.FormTerms.{IsFormRow, AreFormRows};
 ghost use Rattle.view_goal_text.specs.Inside.Shown.{AreKnownLines, AreAdded};
-ghost use Rattle.hereditary_subst.specs.Limits.{Spends};
+ghost use Rattle.hereditary_subst.specs.Limits.{SpendsResults};
 
 use crate::hints::push_hint;
 use crate::labels::{goal_label, known_label};
@@ -185,7 +185,7 @@ fn push_goal_hint(
     ensures known { OnOk result (AreKnownLines table.new lines.new.items) }
     ensures extends { Extends table.old table.new }
     ensures search { OnOk result (IsSearch table.new search.new) }
-    ensures spends { Spends table.new search.old.memo search.new.memo result }
+    ensures spends { SpendsResults table.new search.old.memo search.new.memo result }
 {
     let here = first(known, depth as usize + 1);
     push_hint(table, search, bound, lines, here, goal)?;
@@ -215,7 +215,7 @@ fn push_row_hint(
     ensures known { OnOk result (AreKnownLines table.new lines.new.items) }
     ensures extends { Extends table.old table.new }
     ensures search { OnOk result (IsSearch table.new search.new) }
-    ensures spends { Spends table.new search.old.memo search.new.memo result }
+    ensures spends { SpendsResults table.new search.old.memo search.new.memo result }
 {
     if !wanted {
         return Ok(());
@@ -253,7 +253,7 @@ fn push_row_lines(
     ensures known { OnOk result (AreKnownLines table.new lines.new.items) }
     ensures extends { Extends table.old table.new }
     ensures search { OnOk result (IsSearch table.new search.new) }
-    ensures spends { Spends table.new search.old.memo search.new.memo result }
+    ensures spends { SpendsResults table.new search.old.memo search.new.memo result }
 {
     push_row(table, bound, lines, *row, easy)?;
     push_row_hint(table, search, bound, lines, wanted, known, row)?;
@@ -320,7 +320,7 @@ pub(crate) fn push_rows(
     ensures known { OnOk result (AreKnownLines table.new lines.new.items) }
     ensures extends { Extends table.old table.new }
     ensures search { OnOk result (IsSearch table.new search.new) }
-    ensures spends { Spends table.new search.old.memo search.new.memo result }
+    ensures spends { SpendsResults table.new search.old.memo search.new.memo result }
 {
     let mut known = Vec::new(table.allocator());
     known.push(start)?;

@@ -21,7 +21,7 @@ ghost use Rattle.view_marks.specs.declared.marking.TheConstants.{PART_BINDERS};
 ghost use Rattle.view_marks.specs.Hints.{known_hyps, missing_part, Bounds, hint_of};
 ghost use Rattle.view_marks.specs.Answers.{IsHint, IsKnownHint, IsMissing, IsKnownMissing};
 ghost use Rattle.view_marks.specs.Inside.Nearness.{access_at};
-ghost use Rattle.hereditary_subst.specs.Limits.{Spends, NeverResults};
+ghost use Rattle.hereditary_subst.specs.Limits.{SpendsResults, NeverResults};
 
 use crate::PART_BINDERS;
 use crate::nearness::near;
@@ -112,7 +112,7 @@ fn missing_part(
         tree_at table.new id ≡ form_encoding (missing_part counted Γ A)) }
     ensures extends { Extends table.old table.new }
     ensures after { OnOk result (IsAfter table.new search.new context.old context.new) }
-    ensures spends { Spends table.new search.old.memo search.new.memo result }
+    ensures spends { SpendsResults table.new search.old.memo search.new.memo result }
 {
     match form_node(table, goal) {
         FormNode::And(a, b) => {
@@ -156,7 +156,7 @@ fn bounds_hint(
         → IfOk result (IsHint table.now
         (Bounds (upper_bound Γ x).value (lower_bound counted Γ y).value)) }
     ensures search { OnOk result (IsSearch table.now search.new) }
-    ensures spends { Spends table.now search.old.memo search.new.memo result }
+    ensures spends { SpendsResults table.now search.old.memo search.new.memo result }
 {
     let mut kept = KeptBounds::new(table.allocator());
     let hyps = context.hyps.as_slice();
@@ -185,7 +185,7 @@ fn relation_hint(
         → tree_at table.now a ≡ exp_encoding x → tree_at table.now b ≡ exp_encoding y
         → IfOk result (IsHint table.now (hint_of counted Γ (FRel rel x y))) }
     ensures search { OnOk result (IsSearch table.now search.new) }
-    ensures spends { Spends table.now search.old.memo search.new.memo result }
+    ensures spends { SpendsResults table.now search.old.memo search.new.memo result }
 {
     match rel {
         Rel::Ult => bounds_hint(table, search, context, counted, a, b),
@@ -224,7 +224,7 @@ fn hint_of(
         → IfOk result (IsHint table.new (hint_of counted Γ A)) }
     ensures extends { Extends table.old table.new }
     ensures search { OnOk result (IsSearch table.new search.new) }
-    ensures spends { Spends table.new search.old.memo search.new.memo result }
+    ensures spends { SpendsResults table.new search.old.memo search.new.memo result }
 {
     match form_node(table, part) {
         FormNode::Relation(rel, a, b) => {
@@ -271,7 +271,7 @@ pub fn missing_of(
     ensures known { IfOk result (IsKnownMissing table.new) }
     ensures extends { Extends table.old table.new }
     ensures search { OnOk result (IsSearch table.new search.new) }
-    ensures spends { Spends table.new search.old.memo search.new.memo result }
+    ensures spends { SpendsResults table.new search.old.memo search.new.memo result }
 {
     let hyps = hypotheses_of(table, known)?;
     let mut context = Context::new(table, PART_BINDERS, hyps)?;
