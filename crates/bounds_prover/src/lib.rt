@@ -12,5 +12,5 @@ mod proving;
 mod theorems;
 
 pub use fault::{Measure, ProveFault, ProveFlaw};
-pub use proving::prove;
+pub use proving::{prove, prove_within};
 pub use theorems::prove_laws;

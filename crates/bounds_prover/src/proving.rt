@@ -1,6 +1,6 @@
 //! Builds containers with a proof of their condition.
 
-ghost use Rattle.std.specs.Prelude.{◌≡◌, ◌≤◌, map, length, IfOk};
+ghost use Rattle.std.specs.Prelude.{◌≡◌, ◌≤◌, false, map, length, IfOk};
 ghost use Rattle.term_table.specs.Table.{IsKnown, tree_at};
 ghost use Rattle.term_table.specs.Measures.{height_of};
 ghost use Rattle.lf_signature.specs.Constants.{places_of};
@@ -18,6 +18,8 @@ ghost use Rattle.pcc_gate.specs.Answers.{IsHeld, HasGoodLemmas};
 ghost use Rattle.prover_conditions.specs.Conditions.{condition_parts};
 ghost use Rattle.bounds_prover.specs.Proving.{excess, encoded_unless};
 ghost use Rattle.bounds_prover.specs.Proving.{proved_contents, IsMadeAnswer, IsProveAnswer};
+ghost use Rattle.bounds_prover.specs.declared.fault.ProveFault.TheVariants.{Results};
+ghost use Rattle.hereditary_subst.specs.Limits.{NeedsLimit};
 
 use crate::fault::{Measure, ProveFault, ProveFlaw};
 use crate::theorems::prove_laws;
@@ -68,7 +70,8 @@ fn written(alloc: Global, view: &View<'_>, proof: Id) -> Result<Vec<u8>, ProveFa
     requires contents { height_of (tree_at view.now.table.now proof) ≤ MAX_HEIGHT
         → length (entries (roots (view_contents view.now))) ≤ MAX_ENTRIES
         → IsContents (view_contents view.now) }
-    ensures { let c = view_contents view.now in
+    ensures limit { NeedsLimit false Results result }
+    ensures made { let c = view_contents view.now in
         IsMadeAnswer (encoded_unless (excess c (tree_at view.now.table.now proof)) c) result }
 {
     match excess(alloc, view, proof) {
@@ -85,6 +88,7 @@ fn written(alloc: Global, view: &View<'_>, proof: Id) -> Result<Vec<u8>, ProveFa
 /// proof.
 fn proved(
     alloc: Global,
+    limited: bool,
     policy: &Policy,
     bytes: &[u8],
     passed: Passed<'_>,
@@ -93,9 +97,10 @@ fn proved(
         Passes policy.now bytes.now contents passed.cut.code passed.cut.marks }
     requires lemmas { HasGoodLemmas (contents_of passed.container) }
     requires held { IsHeld passed.container }
-    ensures { let c = contents_of passed.entry.container in
+    ensures made { let c = contents_of passed.entry.container in
         let parts = condition_parts policy.now c.bound passed.entry.cut.code c.invs in
         IsMadeAnswer (proved_contents c parts) result }
+    ensures limit { NeedsLimit limited Results result }
 {
     let _ = bytes; // only the clauses speak of it
     class_laws();
@@ -109,7 +114,7 @@ fn proved(
     let mut table = container.table;
     let invs = container.invs;
     let lemmas = container.lemmas;
-    let found = match prove_condition(&mut table, policy, &cut, &invs, bound) {
+    let found = match prove_condition(&mut table, limited, policy, &cut, &invs, bound) {
         Ok(found) => found,
         Err(Exhausted::Memory) => return Err(ProveFault::Memory),
         Err(Exhausted::Results) => return Err(ProveFault::Results),
@@ -132,15 +137,21 @@ fn proved(
     }
 }
 
-/// The result of `prove`.
-fn made(alloc: Global, policy: &Policy, bytes: &[u8]) -> Result<Vec<u8>, ProveFault>
-    ensures { IsProveAnswer policy.now bytes.now result }
+/// The result of `prove_within`.
+fn made(
+    alloc: Global,
+    limited: bool,
+    policy: &Policy,
+    bytes: &[u8],
+) -> Result<Vec<u8>, ProveFault>
+    ensures exact { IsProveAnswer policy.now bytes.now result }
+    ensures limit { NeedsLimit limited Results result }
 {
-    match front_with_lemmas(alloc, policy, bytes) {
+    match front_with_lemmas(alloc, limited, policy, bytes) {
         Err(GateFault::Refused(refusal)) => Err(ProveFault::At(ProveFlaw::Refused(refusal))),
         Err(GateFault::Memory) => Err(ProveFault::Memory),
         Err(GateFault::Results) => Err(ProveFault::Results),
-        Ok(passed) => proved(alloc, policy, bytes, passed),
+        Ok(passed) => proved(alloc, limited, policy, bytes, passed),
     }
 }
 
@@ -162,7 +173,24 @@ pub fn prove(alloc: Global, policy: &Policy, bytes: &[u8]) -> Result<Vec<u8>, Pr
     ensures exact { IsProveAnswer policy.now bytes.now result }
     ensures accepted { IfOk result (λ out. IsAccepted policy.now out.items) }
 {
+    prove_within(alloc, true, policy, bytes)
+}
+
+/// Encodes the container in `bytes` with a proof, as `prove` does, with the limits on what is
+/// cached if `limited`, and else without any.
+///
+/// Errors: as `prove`; `Results` only under the limits.
+pub fn prove_within(
+    alloc: Global,
+    limited: bool,
+    policy: &Policy,
+    bytes: &[u8],
+) -> Result<Vec<u8>, ProveFault>
+    ensures exact { IsProveAnswer policy.now bytes.now result }
+    ensures accepted { IfOk result (λ out. IsAccepted policy.now out.items) }
+    ensures limit { NeedsLimit limited Results result }
+{
     prove_laws();
     policy.laws(); // tells the prover what the formulas name
-    made(alloc, policy, bytes)
+    made(alloc, limited, policy, bytes)
 }

@@ -10,10 +10,9 @@ ghost use Rattle.bpf_compile.specs.Compilation.{bare_contents, compiled_containe
 
 use crate::invariants::encode_invs;
 use crate::words::bytes_of;
-use bounds_prover::{ProveFault, prove};
+use bounds_prover::{ProveFault, prove_within};
 use bpf_code::bpf_code;
 use bpf_words::Bpf;
-use hereditary_subst::Exhausted;
 use policy_set::{Policy, PolicyKind};
 use proof_container::{Head, View, write};
 use std::alloc::{AllocError, Global};
@@ -52,7 +51,7 @@ fn with_proof(
     policy: &Policy,
     program: &[Bpf],
     bytes: &[u8],
-) -> Result<Vec<u8>, Exhausted>
+) -> Result<Vec<u8>, AllocError>
     requires policy { policy.now ≡ built_in Filter }
     requires program { IsProgram program.now }
     requires bare { bytes.now ≡ encoding_of (bare_contents program.now) }
@@ -65,11 +64,11 @@ fn with_proof(
     bpf_code::code_laws();
     crate::laws();
     crate::written_laws();
-    match prove(alloc, policy, bytes) {
+    match prove_within(alloc, false, policy, bytes) {
         Ok(out) => Ok(out),
-        Err(ProveFault::Memory) => Err(Exhausted::Memory),
-        Err(ProveFault::Results) => Err(Exhausted::Results),
+        Err(ProveFault::Memory) => Err(AllocError),
         Err(ProveFault::At(_)) => unreachable!(),
+        Err(ProveFault::Results) => unreachable!(),
     }
 }
 
@@ -81,11 +80,11 @@ fn with_proof(
 ///
 /// `program` is a program, as `bpf_words::read_bpf` promises.
 ///
-/// Errors: `Memory`, if there was no memory, and `Results`, if the search for the proof cached more
-/// results than its limit. They say nothing about `program`: every program has a container.
+/// Errors: out of memory alone. It says nothing about `program`: every program has a container. The
+/// search for the proof has no limit.
 ///
 /// Source: McCanne and Jacobson, The BSD Packet Filter, USENIX 1993.
-pub fn compile(alloc: Global, program: &[Bpf]) -> Result<Vec<u8>, Exhausted>
+pub fn compile(alloc: Global, program: &[Bpf]) -> Result<Vec<u8>, AllocError>
     requires { IsProgram program.now }
     ensures compiled { IfOk result (λ out. IsCompiled program.now out.items) }
     ensures made { IfOk result (λ out. compiled_container program.now ≡ Ok out.items) }

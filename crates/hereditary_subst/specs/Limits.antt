@@ -41,6 +41,10 @@ IsSpent t m = (is_limited m ≡ true) × (length t.trees ≤ MOST_TREES → left
 abbrev pub SpendsResults : {A : Type 0} → TableView → Memo → Memo → Result A Exhausted → Type 0
 SpendsResults t old new r = (is_limited new ≡ is_limited old) × (left_of new ≤ left_of old) × IfErr r (λ e. e ≡ Results → IsSpent t new)
 
+-- the error e is given only where there is a limit
+abbrev pub NeedsLimit : {A E : Type 0} → Bool → E → Result A E → Type 0
+NeedsLimit limited e r = IfErr r (λ f. f ≡ e → limited ≡ true)
+
 -- the answer isn't `Results`
 abbrev pub NeverResults : {A : Type 0} → Result A Exhausted → Type 0
 NeverResults r = IfErr r (λ e. e ≡ Results → ⊥)

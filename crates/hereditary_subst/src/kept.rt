@@ -140,6 +140,20 @@ impl Memo {
         }
     }
 
+    /// Returns an empty memo, with a limit of `most` results if `limited`, as `new`, and else
+    /// without one.
+    pub fn within(alloc: Global, limited: bool, most: usize) -> Memo
+        ensures memo { (t : TableView) → IsMemo t result }
+        ensures limited { is_limited result ≡ limited }
+        ensures left { limited ≡ true → left_of result ≡ most }
+    {
+        if limited {
+            Memo::new(alloc, most)
+        } else {
+            Memo::unlimited(alloc)
+        }
+    }
+
     /// Takes the limit away until `restore` gives it back, and returns how many results are left of
     /// it. What is cached meanwhile doesn't count.
     pub fn lift(&mut self) -> Option<usize>

@@ -117,6 +117,20 @@ impl Kept {
         }
     }
 
+    /// Returns an empty cache, with a limit of `most` results if `limited`, as `new`, and else
+    /// without one.
+    pub fn within(alloc: Global, limited: bool, most: usize) -> Kept
+        ensures kept { (sig : Const → Option Tree) (t : TableView) → AreKept sig t result }
+        ensures limited { is_limited result.memo ≡ limited }
+        ensures left { limited ≡ true → left_of result.memo ≡ most }
+    {
+        if limited {
+            Kept::new(alloc, most)
+        } else {
+            Kept::unlimited(alloc)
+        }
+    }
+
     /// Counts a step along a context, which keeps nothing: as many as `STEPS_A_JUDGEMENT` count as
     /// one judgement.
     ///

@@ -4,7 +4,7 @@ ghost use Rattle.std.specs.Prelude.{◌≡◌, IfOk, take};
 ghost use Rattle.bpf_words.specs.Programs.{IsProgram};
 ghost use Rattle.bpf_words.specs.Reading.{program_of};
 ghost use Rattle.pcc_c.specs.declared.statuses.TheConstants.{DONE};
-ghost use Rattle.pcc_c.specs.Statuses.{IsShortage};
+ghost use Rattle.pcc_c.specs.Statuses.{IsNoMemory};
 ghost use Rattle.pcc_c.specs.Compiling.{program_read, bpf_answer, IsCompiledFrom};
 ghost use Rattle.pcc_c.specs.Buffers.{AnswersIn};
 ghost use Rattle.pcc_c.specs.Inside.Answers.{IsDue};
@@ -14,7 +14,6 @@ use crate::fault::Fault;
 use crate::reason::Reason;
 use bpf_compile::compile;
 use bpf_words::{Bpf, BpfFault, read_bpf};
-use hereditary_subst::Exhausted;
 use std::alloc::Global;
 
 /// Returns the program that the bytes are. Errors: why they are none, or out of memory.
@@ -31,17 +30,16 @@ fn program_read(alloc: Global, bytes: &[u8]) -> Result<Vec<Bpf>, Fault>
 }
 
 /// Returns the container that the program in the bytes is compiled to. Errors: why there is none,
-/// or out of memory or cached results.
+/// or out of memory.
 #[tactic(auto, unfolding(crate::specs::Compiling::bpf_answer))]
 fn bpf_answer(alloc: Global, bytes: &[u8]) -> Result<Vec<u8>, Fault>
-    ensures exact { IsDue (Unit {0}) (λ made. made.items) (bpf_answer bytes.now) result }
+    ensures exact { IsDue ⊥ (λ made. made.items) (bpf_answer bytes.now) result }
     ensures compiled { IfOk result (λ made. IsCompiledFrom bytes.now made.items) }
 {
     let program = program_read(alloc, bytes)?;
     match compile(alloc, &program) {
         Ok(made) => Ok(made),
-        Err(Exhausted::Memory) => Err(Fault::Memory),
-        Err(Exhausted::Results) => Err(Fault::Results),
+        Err(_) => Err(Fault::Memory),
     }
 }
 
@@ -52,10 +50,10 @@ fn bpf_answer(alloc: Global, bytes: &[u8]) -> Result<Vec<u8>, Fault>
 /// `written` gets the number of bytes that are stored. If the bytes are no program, the line that
 /// says why is stored, without LF, and the status is `BAD_PROGRAM`. If the buffer is too small, the
 /// call returns `NO_ROOM`, leaves the buffer unchanged, and `written` gets the number needed. If it
-/// returns `NO_MEMORY` or `TOO_MANY_RESULTS`, `written` gets 0 and the buffer is unchanged.
+/// returns `NO_MEMORY`, `written` gets 0 and the buffer is unchanged.
 #[unsafe(no_mangle)]
 pub extern "C" fn pcc_bpf(alloc: Global, bytes: &[u8], out: &mut [u8], written: &mut usize) -> u32
-    ensures exact { AnswersIn IsShortage (bpf_answer bytes.now) out.old out.new written.new result }
+    ensures exact { AnswersIn IsNoMemory (bpf_answer bytes.now) out.old out.new written.new result }
     ensures compiled { result ≡ DONE → IsCompiledFrom bytes.now (take written.new out.new) }
 {
     let made = bpf_answer(alloc, bytes);

@@ -99,6 +99,11 @@ pub shortage-refuses : {N : Type 0} (first : N → Option Refusal) (what : Exhau
 shortage-refuses first exhausted.Memory = tt
 shortage-refuses first exhausted.Results = tt
 
+-- what ran out is `Results` only where it was there
+pub shortage-results : (what : Exhausted) → gate_shortage_of what ≡ fault.Results → what ≡ exhausted.Results
+shortage-results exhausted.Memory e = absurd (cc)
+shortage-results exhausted.Results e = refl
+
 -- the container that passed
 pub front-held : (policy : PolicyView) (bytes : List ℕ) (a : Result Passed GateFault)
     → IsPassedAnswer policy bytes a → IfOk a (λ p. IsHeld p.container)

@@ -1,6 +1,7 @@
 //! The acceptance checks before the proof, a function for each.
 
-ghost use Rattle.std.specs.Prelude.{◌≡◌, ◌≤◌, ◌+◌, ◌<◌, ◌*◌, ◌%◌, [], ◌∷◌, length, drop, map, All, IfOk, IfSome, OnOk};
+ghost use Rattle.std.specs.Prelude.{◌≡◌, ◌≤◌, ◌+◌, ◌<◌, ◌*◌, ◌%◌, [], ◌∷◌, length, drop, map};
+ghost use Rattle.std.specs.Prelude.{All, IfOk, IfSome, OnOk, false};
 ghost use Rattle.std.specs.Prelude.{replicate, slice_set};
 ghost use Rattle.std.specs.List.Sorted.{IsStrictlyIncreasing};
 ghost use Rattle.std.specs.List.{AllByRecursion};
@@ -21,7 +22,8 @@ ghost use Rattle.pcc_gate.specs.First.{too_high, has_form, formless};
 ghost use Rattle.pcc_gate.specs.Inside.Stages.{IsContainerAnswer, IsCodeRead, AreLemmasFormed};
 ghost use Rattle.pcc_gate.specs.Inside.Stages.{later_trees, measured_trees};
 ghost use Rattle.pcc_gate.specs.Inside.Stages.{IsCutMade, IsLengthAnswer};
-ghost use Rattle.hereditary_subst.specs.Limits.{SpendsResults};
+ghost use Rattle.hereditary_subst.specs.Limits.{is_limited, SpendsResults, NeedsLimit};
+ghost use Rattle.pcc_gate.specs.declared.fault.GateFault.TheVariants.{Results};
 
 use crate::fault::GateFault;
 use crate::for_policy::is_for;
@@ -44,7 +46,8 @@ pub(crate) fn container_for<'b>(
     policy: &Policy,
     bytes: &'b [u8],
 ) -> Result<Container<'b>, GateFault>
-    ensures { IsContainerAnswer policy.now bytes.now result }
+    ensures answer { IsContainerAnswer policy.now bytes.now result }
+    ensures limit { NeedsLimit false Results result }
 {
     if bytes.len() > MAX_BYTES as usize {
         return Err(GateFault::Refused(Refusal::TooLong(bytes.len() as u64)));
@@ -70,7 +73,8 @@ pub(crate) fn code_in(alloc: Global, bytes: &[u8], profile: Profile) -> Result<C
     requires whole { length bytes.now % 4 ≡ 0 }
     requires some { 0 < length bytes.now }
     requires short { length bytes.now ≤ 4 * MAX_WORDS }
-    ensures { IsCodeRead profile bytes.now result }
+    ensures answer { IsCodeRead profile bytes.now result }
+    ensures limit { NeedsLimit false Results result }
 {
     match Code::of(alloc, bytes, profile) {
         Ok(code) => Ok(code),
@@ -259,6 +263,8 @@ pub(crate) fn lemmas_formed(
     ensures answer { AreLemmasFormed signature (lemmas_in table.old lemmas.now) result }
     ensures extends { Extends table.old table.new }
     ensures kept { OnOk result (AreKept (declared signature) table.new kept.new) }
+    ensures limited { is_limited kept.new.memo ≡ is_limited kept.old.memo }
+    ensures limit { NeedsLimit (is_limited kept.old.memo) Results result }
 {
     match first_failing(table, kept, &signature, Asked::Formula, lemmas)? {
         Some(lemma) => Err(GateFault::Refused(Refusal::LemmaNotForm(lemma))),
@@ -281,7 +287,8 @@ fn indices(alloc: Global, invs: &[(u32, Id)]) -> Result<Vec<u32>, AllocError>
 pub(crate) fn cut_at(alloc: Global, code: Code, invs: &[(u32, Id)]) -> Result<Cut, GateFault>
     requires rising { IsStrictlyIncreasing (map (λ p. p.0) invs.now) }
     requires below { All (λ k. k < length code) (map (λ p. p.0) invs.now) }
-    ensures { IsCutMade code (map (λ p. p.0) invs.now) result }
+    ensures answer { IsCutMade code (map (λ p. p.0) invs.now) result }
+    ensures limit { NeedsLimit false Results result }
 {
     let annotated = indices(alloc, invs)?;
     match code.cut(alloc, &annotated) {
@@ -293,7 +300,8 @@ pub(crate) fn cut_at(alloc: Global, code: Code, invs: &[(u32, Id)]) -> Result<Cu
 
 /// Acceptance check 8: the total length of the paths between cut points is within its limit.
 pub(crate) fn short(cut: &Cut) -> Result<(), GateFault>
-    ensures { IsLengthAnswer cut.now.code cut.now.marks result }
+    ensures answer { IsLengthAnswer cut.now.code cut.now.marks result }
+    ensures limit { NeedsLimit false Results result }
 {
     let unfolded = cut.unfolded();
     if unfolded > MAX_UNFOLDED {

@@ -1,6 +1,6 @@
 //! The acceptance checks before the proof, in order.
 
-ghost use Rattle.std.specs.Prelude.{◌≤◌, ◌<◌, length, map, All, IfOk, OnOk};
+ghost use Rattle.std.specs.Prelude.{◌≡◌, ◌≤◌, ◌<◌, length, map, All, IfOk, OnOk};
 ghost use Rattle.std.specs.List.{AllByRecursion};
 ghost use Rattle.std.specs.List.Sorted.{IsStrictlyIncreasing};
 ghost use Rattle.term_table.specs.Table.{TableView, IsKnown, Extends, id_trees};
@@ -15,6 +15,8 @@ ghost use Rattle.pcc_gate.specs.Passing.{Passes};
 ghost use Rattle.pcc_gate.specs.Inside.Stages.{with_roots, AreFormed, IsShapeAnswer};
 ghost use Rattle.pcc_gate.specs.Inside.Passed.{IsRestAnswer, IsPassedAnswer};
 ghost use Rattle.lf_signature.specs.declared.WordSignature.{WordSignature};
+ghost use Rattle.hereditary_subst.specs.Limits.{is_limited, NeedsLimit};
+ghost use Rattle.pcc_gate.specs.declared.fault.GateFault.TheVariants.{Results};
 ghost use Rattle.proof_container.specs.Versions.{signature_of};
 
 use crate::clauses::{
@@ -57,6 +59,8 @@ fn formed(
     ensures answer { AreFormed signature bound (id_trees table.old invs.now) result }
     ensures extends { Extends table.old table.new }
     ensures kept { OnOk result (AreKept (declared signature) table.new kept.new) }
+    ensures limited { is_limited kept.new.memo ≡ is_limited kept.old.memo }
+    ensures limit { NeedsLimit (is_limited kept.old.memo) Results result }
 {
     let context = context_types(alloc, table, bound)?;
     let form = table.intern(Node::Fam(FORM))?;
@@ -89,6 +93,8 @@ fn shaped(
         IsShapeAnswer signature roots code result }
     ensures extends { Extends table.old table.new }
     ensures kept { OnOk result (AreKept (declared signature) table.new kept.new) }
+    ensures limited { is_limited kept.new.memo ≡ is_limited kept.old.memo }
+    ensures limit { NeedsLimit (is_limited kept.old.memo) Results result }
 {
     if let Some(height) = first_too_high(table, invs, lemmas, proof, 0) {
         return Err(GateFault::Refused(Refusal::Height(height)));
@@ -112,6 +118,8 @@ fn rest<'b>(
     ensures answer { IsRestAnswer (contents_of container.entry) result }
     ensures kept { IfOk result (λ p. let s = signature_of p.container.version in
         AreKept (declared s) p.container.table kept.new) }
+    ensures limited { is_limited kept.new.memo ≡ is_limited kept.old.memo }
+    ensures limit { NeedsLimit (is_limited kept.old.memo) Results result }
 {
     let mut container = container;
     let profile = profile_of(container.version);
@@ -143,6 +151,8 @@ pub(crate) fn pass<'b>(
     ensures answer { IsPassedAnswer policy.now bytes.now result }
     ensures kept { IfOk result (λ p. let s = signature_of p.container.version in
         AreKept (declared s) p.container.table kept.new) }
+    ensures limited { is_limited kept.new.memo ≡ is_limited kept.old.memo }
+    ensures limit { NeedsLimit (is_limited kept.old.memo) Results result }
 {
     match container_for(alloc, policy, bytes) {
         Err(fault) => Err(fault),
@@ -184,6 +194,7 @@ fn good_lemmas<'b>(
         AreKept (declared s) passed.container.table kept.old }
     ensures answer { IsLemmaFrontAnswer policy.now bytes.now result }
     ensures held { IfOk result (λ p. IsHeld p.container) }
+    ensures limit { NeedsLimit (is_limited kept.old.memo) Results result }
 {
     let _ = policy; // only the clauses speak of it
     let _ = bytes; // and of these
@@ -200,19 +211,22 @@ fn good_lemmas<'b>(
 /// Checks whether the acceptance checks before the proof pass, as `front` does, and in addition
 /// checks 10 and 14 for the lemmas alone: their proofs aren't too heavy together, and each proves
 /// its formula with the lemmas before it. Returns the container in `bytes` with its code and cut
-/// points. If the proof is then replaced, only the new proof may fail.
+/// points. If the proof is then replaced, only the new proof may fail. If not `limited`, the cache
+/// has no limit.
 ///
-/// Errors: `Refused` names the first of these checks that fails, exactly if one does; `Memory` and
-/// `Results` as in `front`.
+/// Errors: `Refused` names the first of these checks that fails, exactly if one does; `Memory` as
+/// in `front`, and, if `limited`, `Results`.
 pub fn front_with_lemmas<'b>(
     alloc: Global,
+    limited: bool,
     policy: &Policy,
     bytes: &'b [u8],
 ) -> Result<Passed<'b>, GateFault>
     ensures exact { IsLemmaFrontAnswer policy.now bytes.now result }
     ensures held { IfOk result (λ p. IsHeld p.container) }
+    ensures limit { NeedsLimit limited Results result }
 {
-    let mut kept = Kept::new(alloc, MOST_RESULTS);
+    let mut kept = Kept::within(alloc, limited, MOST_RESULTS);
     match pass(alloc, &mut kept, policy, bytes) {
         Err(fault) => Err(fault),
         Ok(passed) => good_lemmas(alloc, &mut kept, policy, bytes, passed),

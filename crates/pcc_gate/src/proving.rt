@@ -1,6 +1,6 @@
 //! The acceptance checks of the proof and of the lemmas' proofs.
 
-ghost use Rattle.std.specs.Prelude.{◌≡◌, ◌≤◌, [], IfOk, IfSome, OnOk, length, map};
+ghost use Rattle.std.specs.Prelude.{◌≡◌, ◌≤◌, [], IfOk, IfSome, OnOk, length, map, false};
 ghost use Rattle.alpha_cfg.specs.Cuts.{AreFlags, unfolded_of};
 ghost use Rattle.term_table.specs.Table.{IsKnown, Extends, tree_at, id_trees};
 ghost use Rattle.hereditary_subst.specs.Simples.{IsResult};
@@ -18,7 +18,8 @@ ghost use Rattle.vcgen.specs.Encoded.{AreForms};
 ghost use Rattle.vcgen.specs.declared.condition.TheConstants.{MAX_UNFOLDED};
 ghost use Rattle.pcc_gate.specs.Inside.Acceptance.{IsProofFound, IsProofAnswer};
 ghost use Rattle.pcc_gate.specs.Inside.Acceptance.{IsLemmaWeight, AreLemmasProved};
-ghost use Rattle.hereditary_subst.specs.Limits.{SpendsResults};
+ghost use Rattle.hereditary_subst.specs.Limits.{is_limited, SpendsResults, NeedsLimit};
+ghost use Rattle.pcc_gate.specs.declared.fault.GateFault.TheVariants.{Results};
 
 use crate::fault::GateFault;
 use crate::limits::MAX_WEIGHT;
@@ -86,7 +87,8 @@ pub(crate) fn lemmas_light(
 ) -> Result<(), GateFault>
     requires known { LemmasKnown table.now lemmas.now }
     requires places { table.now.places ≡ places_of signature }
-    ensures { IsLemmaWeight signature (lemmas_in table.now lemmas.now) result }
+    ensures answer { IsLemmaWeight signature (lemmas_in table.now lemmas.now) result }
+    ensures limit { NeedsLimit false Results result }
 {
     let weight = lemmas_weight(table, signature, lemmas);
     if weight > MAX_WEIGHT {
@@ -112,6 +114,7 @@ pub(crate) fn lemmas_proved(
     ensures kept { let sig = declared signature in
         let forms = formulas_of (lemmas_in table.new lemmas.now) in
         OnOk result (AreKept (with_lemmas sig forms) table.new kept.new) }
+    ensures limit { NeedsLimit (is_limited kept.old.memo) Results result }
 {
     match first_unproved(alloc, table, kept, &signature, lemmas)? {
         Some(lemma) => Err(GateFault::Refused(Refusal::LemmaNotProof(lemma))),

@@ -24,6 +24,8 @@ ghost use Rattle.lf_signature.specs.Constants.{size_of, declared};
 ghost use Rattle.lf_signature.specs.Known.{HasOp};
 ghost use Rattle.formula_tree.specs.Operators.{Uses};
 ghost use Rattle.policy_set.specs.Views.{PolicyUses};
+ghost use Rattle.hereditary_subst.specs.Limits.{NeedsLimit};
+ghost use Rattle.hereditary_subst.specs.declared.exhausted.Exhausted.TheVariants.{Results};
 
 use crate::parts::{ConditionProof, proof_of_parts};
 use alpha_cfg::Cut;
@@ -32,7 +34,7 @@ use policy_set::Policy;
 use prover_class::class_laws;
 use prover_goals::Search;
 use term_table::{Id, Table};
-use vcgen::{VcFault, vc};
+use vcgen::{VcFault, vc_within};
 
 /// The most results that the search for a proof caches, counting its terms and steps. It is more
 /// than a check's limit, since a goal that occurs in 2^16 contexts has to be decided in each.
@@ -60,10 +62,11 @@ fn is_word(bound: Option<u32>)
 /// length of the paths between cut points has to be within its limit. The arguments are those of
 /// `prove_condition`.
 ///
-/// Errors: out of memory, and `Results` if more results of substitution would be cached than
-/// `vcgen` allows; each id keeps its tree.
+/// Errors: out of memory, and, if `limited`, `Results` if more results of substitution would be
+/// cached than `vcgen` allows; each id keeps its tree.
 pub fn condition_in(
     table: &mut Table,
+    limited: bool,
     policy: &Policy,
     cut: &Cut,
     invs: &[(u32, Id)],
@@ -77,8 +80,9 @@ pub fn condition_in(
         let parts = condition_parts policy.now bound cut.now.code invs in
         IfOk result (IsIdOf table.new (form_encoding (conjoined parts))) }
     ensures extends { Extends table.old table.new }
+    ensures limit { NeedsLimit limited Results result }
 {
-    match vc(table, cut, policy, invs, bound) {
+    match vc_within(table, limited, cut, policy, invs, bound) {
         Ok(condition) => Ok(condition),
         Err(VcFault::Memory) => Err(Exhausted::Memory),
         Err(VcFault::Results) => Err(Exhausted::Results),
@@ -97,10 +101,11 @@ pub fn condition_in(
 /// and the policy's formulas are those of profile 1 and the invariants check over it. The table
 /// gives its weight and height (`Table::weight`, `Table::height`).
 ///
-/// Errors: out of memory, and `Results` if the results that the search caches and the terms that it
-/// builds are more than `MOST_SEARCHED`.
+/// Errors: out of memory, and, if `limited`, `Results` if the results that the search caches and
+/// the terms that it builds are more than `MOST_SEARCHED`, or as `condition_in`.
 pub fn prove_condition(
     table: &mut Table,
+    limited: bool,
     policy: &Policy,
     cut: &Cut,
     invs: &[(u32, Id)],
@@ -130,13 +135,14 @@ pub fn prove_condition(
         let parts = condition_parts policy.now bound cut.now.code invs in
         IfOk result (IsProofOfParts Sigma3 table.new parts) }
     ensures extends { Extends table.old table.new }
+    ensures limit { NeedsLimit limited Results result }
 {
     class_laws();
     is_cut_code(cut);
     is_word(bound);
     policy.laws(); // tells the prover what the formulas name
-    let condition = condition_in(table, policy, cut, invs, bound)?;
-    let mut search = Search::new(table, MOST_SEARCHED);
+    let condition = condition_in(table, limited, policy, cut, invs, bound)?;
+    let mut search = Search::within(table, limited, MOST_SEARCHED);
     let found = proof_of_parts(table, &mut search, bound.is_some(), condition, 0)?;
     Ok(found)
 }

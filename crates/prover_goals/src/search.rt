@@ -47,9 +47,20 @@ impl Search {
         ensures left { left_of result.memo ≡ most }
         ensures counted { uncounted table.now result ≡ 0 }
     {
+        Search::within(table, true, most)
+    }
+
+    /// Returns empty caches, with a limit of `most` results if `limited`, as `new`, and else
+    /// without one.
+    pub fn within(table: &Table, limited: bool, most: usize) -> Search
+        ensures search { (t : TableView) → IsSearch t result }
+        ensures limited { is_limited result.memo ≡ limited }
+        ensures left { limited ≡ true → left_of result.memo ≡ most }
+        ensures counted { uncounted table.now result ≡ 0 }
+    {
         let alloc = table.allocator();
         Search {
-            memo: Memo::new(alloc, most),
+            memo: Memo::within(alloc, limited, most),
             plain: PlainForms::new(alloc),
             forms: NormalForms::new(alloc),
             puts: Puts::new(alloc),

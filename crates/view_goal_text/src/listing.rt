@@ -51,7 +51,7 @@ fn parts_of(
     ensures extends { Extends table.old table.new }
 {
     laws();
-    let condition = condition_in(table, policy, cut, invs, bound)?;
+    let condition = condition_in(table, true, policy, cut, invs, bound)?;
     let parts = condition_goals(table, cut, invs, bound, condition)?;
     Ok(parts)
 }

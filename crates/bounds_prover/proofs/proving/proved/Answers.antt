@@ -42,8 +42,8 @@ prove_condition-requires-clause-marks c =
     let same : map (λ p. p.0) (id_trees k.table k.invs.items) ≡ map (λ p. p.0) c.deref.result.now = keys k.table k.invs.items ∙ ap (λ (l : List (ℕ × ℕ)). map (λ (p : ℕ × ℕ). p.0) l) (sym c.deref.ensures.value) in
     subst (λ l. AreFlags l (length cut.code) cut.marks) same c.requires.passes.annotated
 
-pub returns-in-NotEasy : goal.returns-in-NotEasy
-returns-in-NotEasy c =
+pub returns-in-NotEasy-clause-made : goal.returns-in-NotEasy-clause-made
+returns-in-NotEasy-clause-made c =
     let k = c.args.passed.container in
     let parts = λ (l : List (ℕ × ℕ)). condition_parts c.args.policy.now k.bound c.args.passed.cut.code (id_trees k.table l) in
     let answer = subst (IsPartsAnswer c.prove_condition.new.table (is_some k.bound) 0 (parts c.deref.result.now)) c.in-NotEasy.is c.in-Ok.ensures.exact in
@@ -85,8 +85,8 @@ written-requires-clause-contents c = λ low few.
     (contents_of k) cut.code cut.marks c.requires.passes p given low
     (subst (λ d. length (entries (roots d)) ≤ MAX_ENTRIES) same few))
 
-pub returns : goal.returns
-returns c =
+pub returns-clause-made : goal.returns-clause-made
+returns-clause-made c =
     let k = c.args.passed.container in
     let t = k.table in
     let u = c.prove_condition.new.table in
@@ -102,4 +102,4 @@ returns c =
     let same = same_roots (contents_of k) (id_trees u c.deref-in-Proved.result.now)
     (lemmas_in u c.deref-in-Proved-2.result.now) p invs lemmas in
     let none = (c.class_laws.ensures.exact (is_some k.bound) (parts ps) 0).1 (p, given) in
-    subst (λ m. IsMadeAnswer m c.written.result) (sym (proof-made (contents_of k) (parts ps) p none given)) (subst (λ d. IsMadeAnswer (encoded_unless (excess d p) d) c.written.result) same c.written.ensures)
+    subst (λ m. IsMadeAnswer m c.written.result) (sym (proof-made (contents_of k) (parts ps) p none given)) (subst (λ d. IsMadeAnswer (encoded_unless (excess d p) d) c.written.result) same c.written.ensures.made)

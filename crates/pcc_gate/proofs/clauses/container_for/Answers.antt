@@ -2,8 +2,8 @@ use Rattle.std.proofs.Common.{◌∙◌, sym, rules}
 use Rattle.pcc_gate.proofs.ForPolicy.{for-is}
 use Rattle.pcc_gate.proofs.clauses.container_for.Goals as goal
 
-pub returns-else-not-named : goal.returns-else-not-named
-returns-else-not-named c = (
+pub returns-else-not-named-clause-answer : goal.returns-else-not-named-clause-answer
+returns-else-not-named-clause-answer c = (
   record {
     size = search rules;
     encoded = search rules;

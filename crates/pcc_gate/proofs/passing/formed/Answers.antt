@@ -3,6 +3,11 @@ use Rattle.term_table.specs.Table.{Extends, ctx_of, id_trees}
 use Rattle.pcc_gate.specs.declared.refusal.Refusal.TheVariants as refusal
 use Rattle.pcc_gate.specs.First.{formless, refused_by}
 use Rattle.pcc_gate.proofs.Kept.{grown-twice, known-more, ids-more, ctx-more, trees-same}
+use Rattle.pcc_gate.specs.declared.fault.GateFault.TheVariants as fault
+use Rattle.hereditary_subst.specs.Limits.{is_limited, NeedsLimit}
+use Rattle.pcc_gate.proofs.Refusing.{carries}
+use Rattle.pcc_gate.specs.Shortages.{gate_shortage_of}
+use Rattle.pcc_gate.proofs.Stages.{shortage-results}
 use Rattle.pcc_gate.proofs.passing.formed.Goals as goal
 
 pub first_formless-requires-clause-known : goal.first_formless-requires-clause-known
@@ -45,3 +50,10 @@ returns-clause-answer c =
     let grown : Extends o v = grown-twice o c.context_types.new.table v c.in_ok-context.ensures.extends c.in_ok-form.ensures.extends in
     ap (formless c.args.signature c.args.bound 0) (trees-same o v invs grown c.requires.known)
     ∙ sym c.in_ok-inv.ensures.exact ∙ c.in-None.is
+
+pub returns-in_err-inv-clause-limit : goal.returns-in_err-inv-clause-limit
+returns-in_err-inv-clause-limit c =
+    let s = c.in_err-inv.ensures.spends in
+    let what = c.in_err-inv.field-0.0 in
+    carries (NeedsLimit (is_limited c.args.kept.now.memo) fault.Results) (gate_shortage_of what)
+    (λ e. sym s.0 ∙ (s.2 (shortage-results what e)).0) c.from_residual-in_err-inv.result c.from_residual-in_err-inv.ensures.1

@@ -1,4 +1,4 @@
-use Rattle.std.proofs.Common.{◌≡◌, ◌≤◌, length, None, Err, refl, sym, ◌∙◌, subst}
+use Rattle.std.proofs.Common.{◌≡◌, ◌≤◌, length, None, Err, refl, sym, ◌∙◌, subst, false≢true}
 use Rattle.term_table.specs.Table.{Extends}
 use Rattle.lf_signature.specs.declared.WordSignature.{WordSignature}
 use Rattle.lf_signature.specs.Constants.{declared}
@@ -16,6 +16,8 @@ use Rattle.pcc_gate.specs.Inside.Acceptance.{AreLemmasProved}
 use Rattle.pcc_gate.proofs.Kept.{few-lemmas, known-more, option-more, trees-same, option-same}
 use Rattle.pcc_gate.proofs.Refusing.{carries}
 use Rattle.pcc_gate.proofs.Stages.{alone-heavy, alone-unproved, alone-good, judge-formulas}
+use Rattle.pcc_gate.specs.declared.fault.GateFault.TheVariants as fault
+use Rattle.hereditary_subst.specs.Limits.{is_limited, NeedsLimit}
 use Rattle.pcc_gate.proofs.passing.good_lemmas.Goals as goal
 
 pub returns-in_err-lemmas_light-clause-answer : goal.returns-in_err-lemmas_light-clause-answer
@@ -26,7 +28,7 @@ returns-in_err-lemmas_light-clause-answer c =
     (alone-heavy p.container c.signature_of-signature.result
     c.signature_of-signature.ensures.exact c.deref.result.now c.deref.ensures.value
     c.args.policy.now c.args.bytes.now p.cut.code p.cut.marks c.requires.passes e
-    c.in_err-lemmas_light.ensures)
+    c.in_err-lemmas_light.ensures.answer)
     c.from_residual.result c.from_residual.ensures.1
 
 pub lemmas_proved-requires-clause-holds : goal.lemmas_proved-requires-clause-holds
@@ -61,7 +63,7 @@ returns-in_err-lemmas_proved-clause-answer c =
     let s = c.signature_of-signature.result in
     let e = c.in_err-lemmas_proved.field-0.0 in
     let light = subst (λ l. lemmas_weight s (lemmas_in t l) ≤ MAX_WEIGHT) c.deref.ensures.value
-    c.in_ok-lemmas_light.ensures in
+    c.in_ok-lemmas_light.ensures.answer in
     let unproved = subst (λ l. AreLemmasProved s (lemmas_in t l) (Err e)) c.deref-2.ensures.value
     c.in_err-lemmas_proved.ensures.answer in
     carries (IsLemmaFrontAnswer c.args.policy.now c.args.bytes.now) e
@@ -82,7 +84,7 @@ returns-clause-answer c =
     let grown : Extends t u = c.in_ok-lemmas_proved.ensures.extends in
     let known = c.requires.held.known in
     let light = subst (λ l. lemmas_weight s (lemmas_in t l) ≤ MAX_WEIGHT) c.deref.ensures.value
-    c.in_ok-lemmas_light.ensures in
+    c.in_ok-lemmas_light.ensures.answer in
     let proved = subst (λ l. lemma_unproved s (lemmas_in t l) ≡ None) c.deref-2.ensures.value
     c.in_ok-lemmas_proved.ensures.answer in
     let said = λ (x : Contents). Passes policy bytes x p.cut.code p.cut.marks
@@ -112,3 +114,13 @@ returns-clause-held c =
       lemmas = lemmas_known k.lemmas.items t u held.lemmas grown;
       places = grown.places ∙ held.places;
     }
+
+pub returns-in_err-lemmas_light-clause-limit : goal.returns-in_err-lemmas_light-clause-limit
+returns-in_err-lemmas_light-clause-limit c =
+    carries (NeedsLimit (is_limited c.args.kept.now.memo) fault.Results) c.in_err-lemmas_light.field-0.0 (λ e. absurd (false≢true (c.in_err-lemmas_light.ensures.limit e)))
+    c.from_residual.result c.from_residual.ensures.1
+
+pub returns-in_err-lemmas_proved-clause-limit : goal.returns-in_err-lemmas_proved-clause-limit
+returns-in_err-lemmas_proved-clause-limit c =
+    carries (NeedsLimit (is_limited c.args.kept.now.memo) fault.Results) c.in_err-lemmas_proved.field-0.0 c.in_err-lemmas_proved.ensures.limit
+    c.from_residual-in_err-lemmas_proved.result c.from_residual-in_err-lemmas_proved.ensures.1

@@ -1,4 +1,4 @@
-use Rattle.std.proofs.Common.{◌≡◌, ◌<◌, ◌/◌, ℕ, All, List, Ok, length, map, sym, ◌∙◌, ap, subst, slice_index_or, arith}
+use Rattle.std.proofs.Common.{◌≡◌, ◌<◌, ◌/◌, ℕ, All, List, Ok, length, map, sym, ◌∙◌, ap, subst, slice_index_or, arith, false≢true}
 use Rattle.std.specs.List.Sorted.{IsStrictlyIncreasing}
 use Rattle.alpha_cfg.specs.CodeBytes.{EncodesCode}
 use Rattle.alpha_cfg.specs.Flow.{IsCode}
@@ -14,6 +14,8 @@ use Rattle.pcc_gate.proofs.FirstFront.{key_below, key_rises}
 use Rattle.pcc_gate.proofs.Kept.{known-more, option-more, trees-same, option-same, renamed}
 use Rattle.pcc_gate.proofs.Refusing.{carries, keys}
 use Rattle.pcc_gate.proofs.Stages.{code-refuses}
+use Rattle.pcc_gate.specs.declared.fault.GateFault.TheVariants as fault
+use Rattle.hereditary_subst.specs.Limits.{is_limited, NeedsLimit}
 use Rattle.pcc_gate.proofs.passing.rest.Goals as goal
 use Rattle.word_ops.specs.declared.Profile.{Profile}
 use Rattle.lf_signature.specs.declared.WordSignature.{WordSignature}
@@ -27,7 +29,7 @@ returns-in_err-insns-clause-answer c =
     let e = c.in_err-insns.field-0.0 in
     let bytes = c.args.container.code.now in
     let here = subst (λ (p : Profile). Refuses (first_code k (decoded_code p bytes)) e)
-    c.profile_of-profile.ensures.exact (c.in_err-insns.ensures k) in
+    c.profile_of-profile.ensures.exact (c.in_err-insns.ensures.answer k) in
     carries (IsRestAnswer k) e here c.from_residual.result c.from_residual.ensures.1
 
 -- what is kept serves any signature
@@ -48,7 +50,7 @@ shaped-requires-clause-below c =
     let ps : List (ℕ × ℕ) = c.args.container.invs.items in
     let n : ℕ = length c.args.container.code.now / 4 in
     let insns = c.in_ok-insns.insns in
-    let count : n ≡ length insns = omega (arith, c.in_ok-insns.ensures.1.whole) in
+    let count : n ≡ length insns = omega (arith, c.in_ok-insns.ensures.answer.1.whole) in
     let same : map (λ p. p.0) (id_trees t ps) ≡ map (λ p. p.0) c.deref.result.now = keys t ps ∙ ap (λ (l : List (ℕ × ℕ)). map (λ (p : ℕ × ℕ). p.0) l) (sym c.deref.ensures.value) in
     let all : All (λ j. j < length insns) (map (λ p. p.0) (id_trees t ps)) = λ k d h. subst (λ w. slice_index_or (map (λ p. p.0) (id_trees t ps)) k d < w) count (key_below (id_trees t ps) 0 n k d c.requires.contents.rising h) in
     subst (λ l. All (λ j. j < length insns) l) same all
@@ -66,7 +68,7 @@ returns-in_err-cut-clause-answer c =
     c.deref-2.ensures.value c.in_err-cut.ensures.answer in
     let read = subst (λ (p : Profile). decoded_code p bytes ≡ Ok insns)
     c.profile_of-profile.ensures.exact
-    c.in_ok-insns.ensures.0 in
+    c.in_ok-insns.ensures.answer.0 in
     carries (IsRestAnswer k) e (code-refuses k insns read e here) c.from_residual-in_err-cut.result
     c.from_residual-in_err-cut.ensures.1
 
@@ -91,7 +93,7 @@ returns-clause-answer c =
     let bytes = c.args.container.code.now in
     let encoded = subst (λ (p : Profile). EncodesCode p bytes insns)
     c.profile_of-profile.ensures.exact
-    c.in_ok-insns.ensures.1 in
+    c.in_ok-insns.ensures.answer.1 in
     let sig = signature_of c.args.container.version in
     let mine = subst (λ x. IsShaped sig (with_roots t bound ps ls proof) x cut) (sym code) shaped in
     record {
@@ -111,7 +113,7 @@ returns-clause-answer c =
       };
       encoded =
           subst (λ x. EncodesCode (profile_of c.args.container.version) bytes x) (sym code) encoded;
-      is = subst (λ x. IsCode x) (sym code) c.in_ok-insns.ensures.2;
+      is = subst (λ x. IsCode x) (sym code) c.in_ok-insns.ensures.answer.2;
       shaped = record {
         low = mine.low;
         forms = mine.forms;
@@ -125,3 +127,13 @@ pub returns-clause-kept : goal.returns-clause-kept
 returns-clause-kept c =
     subst (λ (z : WordSignature). AreKept (declared z) c.shaped.new.table c.shaped.new.kept)
     c.signature_of-signature.ensures.exact c.in_ok-cut.ensures.kept
+
+pub returns-in_err-insns-clause-limit : goal.returns-in_err-insns-clause-limit
+returns-in_err-insns-clause-limit c =
+    carries (NeedsLimit (is_limited c.args.kept.now.memo) fault.Results) c.in_err-insns.field-0.0 (λ e. absurd (false≢true (c.in_err-insns.ensures.limit e)))
+    c.from_residual.result c.from_residual.ensures.1
+
+pub returns-in_err-cut-clause-limit : goal.returns-in_err-cut-clause-limit
+returns-in_err-cut-clause-limit c =
+    carries (NeedsLimit (is_limited c.args.kept.now.memo) fault.Results) c.in_err-cut.field-0.0 c.in_err-cut.ensures.limit
+    c.from_residual-in_err-cut.result c.from_residual-in_err-cut.ensures.1

@@ -1,4 +1,4 @@
-use Rattle.std.proofs.Common.{◌≡◌, ◌≤◌, List, map, None, sym, ◌∙◌, ap, subst}
+use Rattle.std.proofs.Common.{◌≡◌, ◌≤◌, List, map, None, sym, ◌∙◌, ap, subst, false≢true}
 use Rattle.alpha_cfg.specs.Cuts.{unfolded_of}
 use Rattle.alpha_cfg.specs.Deciding.{uncut_of}
 use Rattle.term_table.specs.Tree.{Tree}
@@ -8,6 +8,8 @@ use Rattle.vcgen.specs.declared.condition.TheConstants.{MAX_UNFOLDED}
 use Rattle.pcc_gate.specs.First.{marks_of, too_high, lemma_formless}
 use Rattle.pcc_gate.specs.Inside.Stages.{Refuses, with_roots, first_no_formula, first_uncut, IsMade, IsShapeAnswer}
 use Rattle.pcc_gate.proofs.Refusing.{carries, height-none, keys, made-uncut, made-short, formulas-refuse, uncut-refuses, long-refuses}
+use Rattle.pcc_gate.specs.declared.fault.GateFault.TheVariants as fault
+use Rattle.hereditary_subst.specs.Limits.{is_limited, NeedsLimit}
 use Rattle.pcc_gate.proofs.passing.shaped.Goals as goal
 
 pub lemmas_formed-requires-clause-known : goal.lemmas_formed-requires-clause-known
@@ -50,7 +52,7 @@ returns-in_err-cut-clause-answer c =
     ∙ c.in_ok-lemmas_formed.ensures.answer in
     let e = c.in_err-cut.field-0.0 in
     let here : Refuses (first_uncut code (map (λ p. p.0) k.invs)) e =
-    subst (λ l. Refuses (first_uncut code l) e) (sym (keys t invs)) c.in_err-cut.ensures in
+    subst (λ l. Refuses (first_uncut code l) e) (sym (keys t invs)) c.in_err-cut.ensures.answer in
     carries (IsShapeAnswer s k code) e
     (uncut-refuses s k code low c.in_ok-formed.ensures.answer formulas e here)
     c.from_residual-in_err-cut.result c.from_residual-in_err-cut.ensures.1
@@ -72,12 +74,12 @@ returns-in_err-short-clause-answer c =
     ∙ c.in_ok-lemmas_formed.ensures.answer in
     let same = sym (keys t invs) in
     let cut = c.in_ok-cut.cut in
-    let made : IsMade code (map (λ p. p.0) invs) cut = c.in_ok-cut.ensures in
+    let made : IsMade code (map (λ p. p.0) invs) cut = c.in_ok-cut.ensures.answer in
     let uncut : uncut_of code (marks_of k code) ≡ None =
     made-uncut k code cut (map (λ p. p.0) invs) same made in
     let e = c.in_err-short.field-0.0 in
     let here =
-    made-short k code cut (map (λ p. p.0) invs) same made e c.in_err-short.ensures in
+    made-short k code cut (map (λ p. p.0) invs) same made e c.in_err-short.ensures.answer in
     carries (IsShapeAnswer s k code) e
     (long-refuses s k code low c.in_ok-formed.ensures.answer formulas uncut e here)
     c.from_residual-in_err-short.result c.from_residual-in_err-short.ensures.1
@@ -91,7 +93,7 @@ returns-clause-answer c =
     let ls = c.args.lemmas.now in
     let k : Contents = with_roots t c.args.bound invs ls c.args.proof in
     let cut = c.in_ok-cut.cut in
-    let made : IsMade code (map (λ p. p.0) invs) cut = c.in_ok-cut.ensures in
+    let made : IsMade code (map (λ p. p.0) invs) cut = c.in_ok-cut.ensures.answer in
     record {
       low = height-none (too_high (roots k)) (sym c.first_too_high.ensures ∙ c.in_default.is);
       forms = c.in_ok-formed.ensures.answer;
@@ -101,5 +103,26 @@ returns-clause-answer c =
           ∙ c.in_ok-lemmas_formed.ensures.answer;
       made = subst (λ l. IsMade code l cut) (sym (keys t invs)) made;
       short =
-          subst (λ x. unfolded_of x cut.marks ≤ MAX_UNFOLDED) made.code_is c.in_ok-short.ensures;
+          subst (λ x. unfolded_of x cut.marks ≤ MAX_UNFOLDED) made.code_is c.in_ok-short.ensures.answer;
     }
+
+pub returns-in_err-formed-clause-limit : goal.returns-in_err-formed-clause-limit
+returns-in_err-formed-clause-limit c =
+    carries (NeedsLimit (is_limited c.args.kept.now.memo) fault.Results) c.in_err-formed.field-0.0 c.in_err-formed.ensures.limit
+    c.from_residual.result c.from_residual.ensures.1
+
+pub returns-in_err-lemmas_formed-clause-limit : goal.returns-in_err-lemmas_formed-clause-limit
+returns-in_err-lemmas_formed-clause-limit c =
+    carries (NeedsLimit (is_limited c.args.kept.now.memo) fault.Results) c.in_err-lemmas_formed.field-0.0
+    (λ e. sym c.in_ok-formed.ensures.limited ∙ c.in_err-lemmas_formed.ensures.limit e)
+    c.from_residual-in_err-lemmas_formed.result c.from_residual-in_err-lemmas_formed.ensures.1
+
+pub returns-in_err-cut-clause-limit : goal.returns-in_err-cut-clause-limit
+returns-in_err-cut-clause-limit c =
+    carries (NeedsLimit (is_limited c.args.kept.now.memo) fault.Results) c.in_err-cut.field-0.0 (λ e. absurd (false≢true (c.in_err-cut.ensures.limit e)))
+    c.from_residual-in_err-cut.result c.from_residual-in_err-cut.ensures.1
+
+pub returns-in_err-short-clause-limit : goal.returns-in_err-short-clause-limit
+returns-in_err-short-clause-limit c =
+    carries (NeedsLimit (is_limited c.args.kept.now.memo) fault.Results) c.in_err-short.field-0.0 (λ e. absurd (false≢true (c.in_err-short.ensures.limit e)))
+    c.from_residual-in_err-short.result c.from_residual-in_err-short.ensures.1

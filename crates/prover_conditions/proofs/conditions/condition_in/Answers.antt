@@ -7,5 +7,5 @@ returns-in-Ok-clause-id c =
     let e = c.in-Ok.ensures.exact in
     record {
       known = e.1;
-      is = encodes-parts c.args.policy.now c.args.bound c.args.cut.now.code (id_trees c.args.table.now c.args.invs.now) (tree_at c.vc.new.table c.in-Ok.condition) c.requires.forms e.2;
+      is = encodes-parts c.args.policy.now c.args.bound c.args.cut.now.code (id_trees c.args.table.now c.args.invs.now) (tree_at c.vc_within.new.table c.in-Ok.condition) c.requires.forms e.2;
     }

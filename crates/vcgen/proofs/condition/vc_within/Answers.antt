@@ -10,14 +10,14 @@ use Rattle.vcgen.proofs.WalkTrees.{condition_term-is}
 use Rattle.vcgen.proofs.Encodings.{encoding-exists}
 use Rattle.lf_encode.proofs.MachineContext.{encoding-machine}
 use Rattle.vcgen.proofs.Parts.{invs-inside}
-use Rattle.vcgen.proofs.condition.vc.Goals as goal
+use Rattle.vcgen.proofs.condition.vc_within.Goals as goal
 
 pub encoded_condition-requires-clause-inside : goal.encoded_condition-requires-clause-inside
 encoded_condition-requires-clause-inside c k d lt =
     subst (λ l. (slice_index_or c.args.invs.now k d).0 < length l) (sym c.code.ensures.value) (invs-inside c.args.invs.now (length c.args.cut.now.code) c.args.cut.now.marks c.requires.marks k d lt)
 
-pub returns-clause-exact : goal.returns-clause-exact
-returns-clause-exact c =
+pub returns-in-Ok-clause-exact : goal.returns-in-Ok-clause-exact
+returns-in-Ok-clause-exact c =
     let policy = c.args.policy.now in
     let code = c.args.cut.now.code in
     let bound = c.args.bound in
@@ -28,7 +28,7 @@ returns-clause-exact c =
     ≡ form_encoding (condition (annotated policy bound code has.formulas)) =
     condition_term-is bound code invs has.formulas policy.pre policy.post has.encoded
     c.laws.ensures.asked.over c.laws.ensures.promised.over in
-    let made = c.in_ok-encoded_condition.ensures.id.is
+    let made = c.in-Ok.ensures.id.is
     ∙ (λ i. condition_term bound (c.code.ensures.value i) invs (encoding-machine policy.pre i)
     (encoding-machine policy.post i)) ∙ term in
-    (omega arith, c.in_ok-encoded_condition.ensures.id.known, record { formulas = has.formulas; encoded = has.encoded; is = sym made })
+    (omega arith, c.in-Ok.ensures.id.known, record { formulas = has.formulas; encoded = has.encoded; is = sym made })
