@@ -1,4 +1,4 @@
-/* pcc.h: makes and checks containers of proof-carrying code. For C99 and C++.
+/* pcc.h: makes, checks and runs containers of proof-carrying code. For C99 and C++.
  *
  * Link libpcc_c.a and heap.o. Each function is proved, in crates/pcc_c, to do what is said here of it. The caller has to
  * see to the rest:
@@ -6,10 +6,12 @@
  * - A pointer isn't null, even if its length is 0. It points to as many bytes as its length says.
  * - A buffer for a result overlaps no other argument.
  * - No function is called from a signal handler, nor in a forked child of a process with threads. Threads may call at
- *   the same time; no function keeps anything from one call to the next.
+ *   the same time; but for hosts, no function keeps anything from one call to the next.
+ * - A `struct pcc_host` begins as PCC_HOST_INIT. It isn't copied, and only the functions change it. One thread makes all
+ *   calls with it.
  * - The stack has 5 MiB free. That is enough for the worst input that is known; no theorem says so.
  *
- * A function writes to `out` and `written` alone, and keeps no pointer. */
+ * A function writes to `out`, `written`, `host` and `result` alone, and keeps no pointer. */
 #ifndef PCC_H
 #define PCC_H
 
@@ -25,6 +27,9 @@ extern "C" {
 
 /* The room that any line needs, in bytes. */
 #define PCC_LINE 128
+
+/* The bytes that a packet has at most. */
+#define PCC_PACKET 65535
 
 /* What a function returns. A number never changes its meaning. 1 to 14 are the number after `refused` in the line that
  * `pcc` prints: the first acceptance check that fails. */
@@ -53,7 +58,10 @@ enum pcc_status {
     PCC_BAD_PROGRAM = 38,      /* the bytes are no program of classic BPF that can be compiled */
     PCC_NOT_EASY = 39,         /* the prover finds no proof of a part of the verification condition */
     PCC_TOO_BIG = 40,          /* the container would be past a limit */
-    PCC_BAD_VERSION = 41       /* no such version, or not with this bound */
+    PCC_BAD_VERSION = 41,      /* no such version, or not with this bound */
+    PCC_HOST_OPEN = 42,        /* the handle has a host already */
+    PCC_NO_HOST = 43,          /* the handle has no host */
+    PCC_LONG_PACKET = 44       /* the packet has more than PCC_PACKET bytes */
 };
 
 /* A policy is given as bytes: `filter`, `tag` or `table`, or the two lines of a policy file (docs/POLICIES.md). */
@@ -96,6 +104,41 @@ uint32_t pcc_upgrade(const uint8_t *container, size_t container_length, uint8_t 
 /* Makes the digest by which containers name the policy, 32 bytes: the SHA-256 of its text. Else the status is
  * PCC_UNKNOWN_POLICY or PCC_BAD_POLICY. */
 uint32_t pcc_policy(const uint8_t *policy, size_t policy_length, uint8_t *out, size_t room, size_t *written);
+
+/* A host runs the code of one accepted container on packets. It tests no access: what it makes of a packet is proved to
+ * be what a machine makes of it that tests each one. It is freed by pcc_host_free alone. */
+struct pcc_host {
+    uint32_t live; /* 1 if there is a host, else 0 */
+    void *at;
+};
+#define PCC_HOST_INIT {0, 0}
+
+/* How a run ends. A number never changes its meaning. */
+enum pcc_end {
+    PCC_SHORT = 0,       /* the packet is too short for the policy: below 64 bytes for `filter`, 16 for `tag` */
+    PCC_RETURNED = 1,    /* the code returned */
+    PCC_OUT_OF_STEPS = 2 /* the code made all its steps without a return */
+};
+
+/* The result of a packet. There is padding after `end`, so results aren't compared by memcmp. */
+struct pcc_result {
+    uint32_t end; /* an `enum pcc_end` */
+    uint64_t r0;  /* register 0 if the code returned, else 0 */
+    uint64_t sum; /* of the quadwords that the code may change under `tag` and `table`, modulo 2^64; 0 under `filter` */
+};
+
+/* Checks the container as pcc_check does and, if it is accepted, makes a host of it, which is PCC_DONE. The host makes at
+ * most `steps` steps for each packet; a return is a step. The policy is a name. On any other status *host is unchanged:
+ * PCC_HOST_OPEN if it has a host, else what pcc_check returns, and PCC_UNKNOWN_POLICY for a policy file. */
+uint32_t pcc_host_new(const uint8_t *policy, size_t policy_length, const uint8_t *container, size_t container_length,
+                      uint64_t steps, struct pcc_host *host);
+
+/* Runs the host's code on the packet, from the policy's start state. Nothing of an earlier packet is left. Takes no
+ * memory. Returns PCC_DONE; or, with *result unchanged, PCC_NO_HOST or PCC_LONG_PACKET. */
+uint32_t pcc_host_run(struct pcc_host *host, const uint8_t *packet, size_t packet_length, struct pcc_result *result);
+
+/* Frees the host, and returns PCC_DONE; or PCC_NO_HOST. *host has no host afterwards. */
+uint32_t pcc_host_free(struct pcc_host *host);
 
 /* Returns PCC_ABI of the library that is linked. */
 uint32_t pcc_abi(void);

@@ -1,5 +1,5 @@
-# Sourced by pcc, pcc_view, tools/build and tools/install: where the repository is, and whether a program there is
-# proved and current. It starts one process, `find`, so a command that is built costs little more than itself.
+# Sourced by pcc, pcc_view, tools/build and tools/install: where the repository is, and whether a program, or the library
+# for C, is proved and current. It starts one process, `find`, so a command that is built costs little more than itself.
 
 # Sets `top`, the repository's folder, from the path of a script that is in it or in its tools/. Follows links; starts
 # a process only for a link.
@@ -68,11 +68,21 @@ find_folders() {
 # that was set back), nor is another toolchain. It doesn't look at proofs, on purpose: they don't change the program.
 # `rt ci` judges them.
 is_current() {
+  [ -x "$binary" ] && has_no_newer_source
+}
+
+has_no_newer_source() {
   local folders
-  [ -x "$binary" ] || return 1
   find_folders
   # (what `find` can't read counts as newer, so its errors do too)
   [ -z "$(cd "$top" && exec find crates.txt "${folders[@]}" -newer "$binary" -print -quit 2>&1)" ]
+}
+
+# Succeeds if the archive of the library for C is there, which tools/c_check builds, and no source is newer. Sets `crate`
+# and `binary`. Needs `top`.
+has_library() {
+  crate=pcc_c binary=$top/crates/pcc_c/out/libpcc_c.a
+  [ -f "$binary" ] && has_no_newer_source
 }
 
 # Runs a program with the words given: the proved one if it is current, else the sources without proofs.

@@ -10,7 +10,7 @@ from typing import Dict, List, NamedTuple, Optional, Tuple
 TOP = os.path.dirname(os.path.dirname(os.path.abspath(__file__)))
 POLICIES = ["filter", "tag", "table"]
 HELP_SOURCE = "crates/view_cli/src/texts.rt"
-FLAG = re.compile(r"\[(--[a-z0-9]+)(?: ([A-Z]+))?\]")  # as a form has it
+FLAG = re.compile(r"\[(--[a-z0-9-]+)(?: ([A-Z]+))?\]")  # as a form has it
 
 
 class Fault(Exception):

@@ -24,8 +24,8 @@ MOST_WANTED, MOST_FORMULA = 40, 300  # formulas of a head after a round; columns
 SENTINEL = "(ule 900000000 left)"  # makes the goals on steps easy while candidates are tried
 PART = re.compile(r"part \d+, from (?:index (\d+)|.*)$")
 KNOWN = re.compile(r"known (\d+)(?:, \d+ (?:not )?taken)?: (.*)")
-GOAL = re.compile(r"goal (\d+) (load|store|step|return|index)(?: (\d+))?, known 0 to \d+, (not easy|easy): (.*)")
-HINT = re.compile(r"  (missing|like it): (.*)")
+GOAL = re.compile(r"goal (\d+) (load|store|step|return|index)(?: (\d+))?, known 0 to \d+, (not easy|false|easy): (.*)")
+HINT = re.compile(r"  (missing|false|like it): (.*)")
 PROVED = "every goal is easy"
 
 Invariants = Dict[int, List[str]]  # by heads, each as the formulas that it joins
@@ -81,10 +81,10 @@ def answer_of(text: str) -> Answer:
         elif goal and parts:
             target = int(goal.group(3)) if goal.group(3) else None
             parts[-1].append(Goal(head, int(goal.group(1)), goal.group(2), target, goal.group(4) == "easy", goal.group(5), known))
-        elif hint and parts and hint.group(1) == "missing":
-            parts[-1][-1].missing = hint.group(2)
-        elif hint and parts:
+        elif hint and parts and hint.group(1) == "like it":
             parts[-1][-1].likes.append(hint.group(2))
+        elif hint and parts:
+            parts[-1][-1].missing = hint.group(2)
     return Answer(parts, lines[-1] if lines else "it printed nothing")
 
 

@@ -1,16 +1,18 @@
-"""Makes and checks containers of proof-carrying code, by the proved library for C.
+"""Makes, checks and runs containers of proof-carrying code, by the proved library for C.
 
     import pcc
     verdict = pcc.explain("filter", container)  # bytes
     if not verdict:
         print(verdict.line)                     # for example: refused 11 NotProof
+    with pcc.Host("filter", container) as host:
+        print(host.run(packet).r0)
 
 A policy is the name of a built-in one, `filter`, `tag` or `table`, or a `Policy`. Each function but `check` and `explain`
 returns bytes, and raises `Refused` with the line that `pcc` prints if there are none. `Exhausted` says nothing about the
 arguments.
 
 The library is the shared one that PCC_LIBRARY names, else libpcc.so.N, where N is `ABI`. What is proved of it stands in
-docs/LIBRARY.md; this file is only tested. Threads may call at the same time.
+docs/LIBRARY.md; this file is only tested. Threads may call at the same time, but each `Host` belongs to one thread.
 """
 from __future__ import annotations
 
@@ -18,10 +20,11 @@ import ctypes
 import enum
 import functools
 import os
+import threading
 from typing import Any, Callable, NamedTuple, Union
 
-__all__ = ["ABI", "Error", "Exhausted", "Policy", "Refused", "Status", "Verdict", "assemble", "check", "compile_bpf",
-           "explain", "prove", "upgrade"]
+__all__ = ["ABI", "End", "Error", "Exhausted", "Host", "Policy", "Refused", "Result", "Status", "Verdict", "assemble",
+           "check", "compile_bpf", "explain", "prove", "upgrade"]
 
 ABI = 1  # the interface that this file is for, PCC_ABI of pcc.h
 ROOM = 65536  # bytes of the buffer that is tried first
@@ -56,6 +59,17 @@ class Status(enum.IntEnum):
     NOT_EASY = 39
     TOO_BIG = 40
     BAD_VERSION = 41
+    HOST_OPEN = 42
+    NO_HOST = 43
+    LONG_PACKET = 44
+
+
+class End(enum.IntEnum):
+    """How a run on a packet ends, by the names of pcc.h."""
+
+    SHORT = 0
+    RETURNED = 1
+    OUT_OF_STEPS = 2
 
 
 class Error(Exception):
@@ -85,6 +99,15 @@ class Verdict(NamedTuple):
         return self.status == Status.DONE
 
 
+class Result(NamedTuple):
+    """What `Host.run` returns: how the run ended, register 0 if the code returned, and the sum of the quadwords that the
+    code may change under `tag` and `table`. What doesn't apply is 0."""
+
+    end: End
+    r0: int
+    sum: int
+
+
 class Policy:
     """A policy: the name of a built-in one, or the two lines of a policy file."""
 
@@ -106,16 +129,30 @@ class Policy:
 PolicyLike = Union[str, bytes, Policy]
 
 
+class _Handle(ctypes.Structure):
+    """`struct pcc_host`."""
+
+    _fields_ = [("live", ctypes.c_uint32), ("at", ctypes.c_void_p)]
+
+
+class _Result(ctypes.Structure):
+    """`struct pcc_result`."""
+
+    _fields_ = [("end", ctypes.c_uint32), ("r0", ctypes.c_uint64), ("sum", ctypes.c_uint64)]
+
+
 @functools.lru_cache(maxsize=None)
 def _library() -> ctypes.CDLL:
     """Returns the library. Raises OSError if there is none, and ImportError if it has another interface."""
     name = os.environ.get("PCC_LIBRARY") or "libpcc.so.%d" % ABI
     found = ctypes.CDLL(name)
     text, out = [ctypes.c_char_p, ctypes.c_size_t], [ctypes.c_void_p, ctypes.c_size_t, ctypes.POINTER(ctypes.c_size_t)]
-    number = ctypes.c_uint32
+    number, handle = ctypes.c_uint32, ctypes.POINTER(_Handle)
     for function, arguments in (("pcc_abi", []), ("pcc_check", text + text), ("pcc_explain", text + text + out),
                                 ("pcc_asm", [number, number] + text + text + out), ("pcc_prove", text + text + out),
-                                ("pcc_bpf", text + out), ("pcc_upgrade", text + out), ("pcc_policy", text + out)):
+                                ("pcc_bpf", text + out), ("pcc_upgrade", text + out), ("pcc_policy", text + out),
+                                ("pcc_host_new", text + text + [ctypes.c_uint64, handle]), ("pcc_host_free", [handle]),
+                                ("pcc_host_run", [handle] + text + [ctypes.POINTER(_Result)])):
         call = getattr(found, function)
         call.argtypes, call.restype = arguments, number
     if found.pcc_abi() != ABI:
@@ -209,3 +246,57 @@ def compile_bpf(program: bytes) -> bytes:
 def upgrade(container: bytes) -> bytes:
     """Returns the container of version 2 of one of version 1. Raises Refused if there is none, and Exhausted."""
     return _made("pcc_upgrade", memoryview(container).tobytes())
+
+
+class Host:
+    """A host of an accepted container, which runs its code on packets.
+
+    Only the thread that makes a host may use it. The end of a `with` statement frees it, or `close`.
+    """
+
+    def __init__(self, policy: PolicyLike, container: bytes, *, steps: int = 1000000) -> None:
+        """Checks the container as `check` does. The code makes at most `steps` steps for each packet.
+
+        The policy is a built-in one. Raises Refused if the container isn't accepted, with the line, and Exhausted.
+        """
+        self._handle, self._thread = _Handle(), threading.current_thread()
+        if not 0 <= steps < 2**64:
+            raise ValueError("steps has to be from 0 to 2**64 - 1")
+        given = _policy(policy), memoryview(container).tobytes()
+        status = Status(_library().pcc_host_new(*_given(*given), steps, ctypes.byref(self._handle)))
+        if status in (Status.NO_MEMORY, Status.TOO_MANY_RESULTS):
+            raise Exhausted(status, "")
+        if status != Status.DONE:
+            line = b"unknown policy" if status == Status.UNKNOWN_POLICY else _told("pcc_explain", *given)[1]
+            raise Refused(status, line.decode("ascii"))
+
+    def run(self, packet: bytes) -> Result:
+        """Returns what the code makes of the packet, which has at most 65,535 bytes.
+
+        Raises Refused with the status LONG_PACKET, or NO_HOST if the host is closed.
+        """
+        self._demand_thread()
+        result, given = _Result(), memoryview(packet).tobytes()
+        status = Status(_library().pcc_host_run(ctypes.byref(self._handle), given, len(given), ctypes.byref(result)))
+        if status != Status.DONE:
+            raise Refused(status, "")
+        return Result(End(result.end), result.r0, result.sum)
+
+    def close(self) -> None:
+        """Frees the host. That of a closed host does nothing."""
+        self._demand_thread()
+        _library().pcc_host_free(ctypes.byref(self._handle))
+
+    def _demand_thread(self) -> None:
+        if threading.current_thread() is not self._thread:
+            raise RuntimeError("this host belongs to thread %s" % self._thread.name)
+
+    def __enter__(self) -> "Host":
+        return self
+
+    def __exit__(self, *_: object) -> None:
+        self.close()
+
+    def __del__(self) -> None:
+        if self._handle.live and threading.current_thread() is self._thread:
+            self.close()

@@ -6,6 +6,7 @@ import glob
 import hashlib
 import os
 import re
+import struct
 import subprocess
 import sys
 import threading
@@ -23,6 +24,15 @@ POLICIES = ("filter", "tag", "table")
 def example(name: str) -> bytes:
     with open(os.path.join(TOP, "examples", name), "rb") as file:
         return file.read()
+
+
+def packets(name: str) -> List[bytes]:
+    data, found = example(name), []
+    while data:
+        length = 4 + int.from_bytes(data[:4], "little")
+        found.append(data[4:length])
+        data = data[length:]
+    return found
 
 
 def own_policy() -> pcc.Policy:
@@ -118,12 +128,80 @@ class Making(unittest.TestCase):
         self.assertEqual(str(caught.exception), line or status.name)
 
 
+class Hosting(unittest.TestCase):
+    def test_runs(self) -> None:
+        with pcc.Host("filter", example("port/container")) as host:
+            self.assertEqual(host.run(bytearray(packets("frames/packets")[0])), (pcc.End.RETURNED, 1, 0))
+            self.assertEqual(host.run(bytes(63)), (pcc.End.SHORT, 0, 0))
+            self.assertEqual(host.run(bytes(65535)).end, pcc.End.RETURNED)
+        with pcc.Host(pcc.Policy("filter"), example("port/container"), steps=1) as host:
+            self.assertEqual(host.run(bytes(64)), (pcc.End.OUT_OF_STEPS, 0, 0))
+
+    def test_sums(self) -> None:
+        with pcc.Host("table", example("sort/container")) as host:
+            for packet in packets("sort/packets"):
+                words = struct.unpack("<%dQ" % (-(-len(packet) // 8)), packet + bytes(-len(packet) % 8))
+                self.assertEqual(host.run(packet).sum, sum(words) % 2**64)
+
+    def test_refuses(self) -> None:
+        for policy, name, status, line in (("filter", "patched", 11, "refused 11 NotProof"),
+                                           ("Filter", "port", 32, "unknown policy"),
+                                           (own_policy(), "own_policy", 32, "unknown policy")):
+            with self.assertRaises(pcc.Refused) as caught:
+                pcc.Host(policy, example(name + "/container"))
+            self.assertEqual((caught.exception.status, caught.exception.line), (status, line))
+        self.assertRaises(ValueError, pcc.Host, "filter", example("port/container"), steps=2**64)
+
+    def test_closed(self) -> None:
+        host = pcc.Host("filter", example("port/container"))
+        self.refused(pcc.Status.LONG_PACKET, host, bytes(65536))
+        host.close()
+        host.close()
+        self.refused(pcc.Status.NO_HOST, host, bytes(64))
+
+    def test_other_threads(self) -> None:
+        host, raised = pcc.Host("filter", example("port/container")), []
+
+        def uses() -> None:
+            for call in (lambda: host.run(bytes(64)), host.close):
+                try:
+                    call()
+                except RuntimeError as error:
+                    raised.append(str(error))
+
+        thread = threading.Thread(target=uses)
+        thread.start()
+        thread.join()
+        self.assertEqual(raised, ["this host belongs to thread MainThread"] * 2)
+        self.assertEqual(host.run(bytes(64)).end, pcc.End.RETURNED)
+        host.close()
+
+    def test_threads(self) -> None:
+        results: List[List[pcc.Result]] = []
+
+        def runs() -> None:
+            with pcc.Host("filter", example("port/container")) as host:
+                results.append([host.run(packet) for packet in packets("frames/packets") * 20])
+
+        threads = [threading.Thread(target=runs) for _ in range(4)]
+        for thread in threads:
+            thread.start()
+        for thread in threads:
+            thread.join()
+        self.assertEqual(results, [results[0]] * 4)
+
+    def refused(self, status: pcc.Status, host: pcc.Host, packet: bytes) -> None:
+        with self.assertRaises(pcc.Refused) as caught:
+            host.run(packet)
+        self.assertEqual(caught.exception.status, status)
+
+
 class Library(unittest.TestCase):
     def test_header(self) -> None:
         with open(os.path.join(TOP, "c", "pcc.h")) as file:
             header = re.sub(r"/\*.*?\*/", "", file.read(), flags=re.S)
         declared = {name: int(number) for name, number in re.findall(r"PCC_(\w+) = (\d+)", header)}
-        self.assertEqual(declared, {status.name: status.value for status in pcc.Status})
+        self.assertEqual(declared, {it.name: it.value for of in (pcc.Status, pcc.End) for it in of})
         self.assertEqual(re.findall(r"#define PCC_ABI (\d+)", header), [str(pcc.ABI)])
 
     def test_small_buffer(self) -> None:
@@ -152,9 +230,10 @@ class Library(unittest.TestCase):
         self.assertEqual(wrong, [])
 
     def test_exhausted(self) -> None:
-        spent = mock.Mock(pcc_check=lambda *_: 34, pcc_explain=lambda *_: 35, pcc_prove=lambda *_: 34)
+        spent = mock.Mock(pcc_check=lambda *_: 34, pcc_explain=lambda *_: 35, pcc_prove=lambda *_: 34,
+                          pcc_host_new=lambda *_: 35)
         with mock.patch("pcc._library", lambda: spent):
-            for call, status in ((pcc.check, 34), (pcc.explain, 35), (pcc.prove, 34)):
+            for call, status in ((pcc.check, 34), (pcc.explain, 35), (pcc.prove, 34), (pcc.Host, 35)):
                 with self.assertRaises(pcc.Exhausted) as caught:
                     call("filter", b"")
                 self.assertEqual((caught.exception.status, caught.exception.line), (status, ""))

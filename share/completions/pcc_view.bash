@@ -51,7 +51,7 @@ _pcc_view() {
   current=${words[-1]}
   case ${words[1]} in
     list) kinds=(file file) ;;
-    goals) kinds=(policy_or_file file) ;;
+    goals) kinds=(policy_or_file file file) flags='--only-missing --all' ;;
     packet) kinds=(policy_or_file file file number) flags='--steps' ;;
     formula) kinds=(file) flags='--v2 --bound --policy' ;;
     source) kinds=(file) flags='--v2 --bound' ;;

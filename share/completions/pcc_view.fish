@@ -40,6 +40,9 @@ complete -c pcc_view -n __fish_use_subcommand -a goals -d 'the condition'\''s go
 complete -c pcc_view -n '__pcc_view_at goals 0' -a 'filter tag table' -d policy
 complete -c pcc_view -n '__pcc_view_at goals 0' -a '(__pcc_view_policy_file)'
 complete -c pcc_view -n '__pcc_view_at goals 1' -F
+complete -c pcc_view -n '__pcc_view_at goals 2' -F
+complete -c pcc_view -n '__fish_seen_subcommand_from goals' -l only-missing -d 'only goals that are not easy'
+complete -c pcc_view -n '__fish_seen_subcommand_from goals' -l all -d 'all that is missing of each goal that is not easy'
 complete -c pcc_view -n __fish_use_subcommand -a packet -d 'the run on packet K, step by step'
 complete -c pcc_view -n '__pcc_view_at packet 0' -a 'filter tag table' -d policy
 complete -c pcc_view -n '__pcc_view_at packet 0' -a '(__pcc_view_policy_file)'

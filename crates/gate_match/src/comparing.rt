@@ -13,7 +13,7 @@ ghost use Rattle.vcgen.specs.WalkTree.{walked, walked_at, one_less};
 ghost use Rattle.vcgen.specs.WalkTree.{start_terms, entry_terms};
 ghost use Rattle.vcgen.specs.Symbols.{ids_of};
 ghost use Rattle.gate_match.specs.Inside.Comparisons.{Compares};
-ghost use Rattle.hereditary_subst.specs.Limits.{Spends};
+ghost use Rattle.hereditary_subst.specs.Limits.{SpendsResults};
 
 use crate::comparisons::{Comparisons, is_put_by};
 use crate::goals::sides;
@@ -45,7 +45,7 @@ pub(crate) fn is_walk(
         IfOk result (λ b. IsTrue b ↔ (tree_at t goal ≡ walk index terms)) }
     ensures extends { Extends table.old table.new }
     ensures walking { Compares table.new program.now symbols.now shifts.new kept.new }
-    ensures spends { Spends table.new shifts.old shifts.new result }
+    ensures spends { SpendsResults table.new shifts.old shifts.new result }
 {
     match invariant(program.invs, index) {
         Some(inv) => is_put_by(table, shifts, kept, inv, symbols, goal),
@@ -83,7 +83,7 @@ fn is_walk_with(
         IfOk result (λ b. IsTrue b ↔ (tree_at t goal ≡ walk index terms)) }
     ensures extends { Extends table.old table.new }
     ensures walking { Compares table.new program.now symbols.now shifts.new kept.new }
-    ensures spends { Spends table.new shifts.old shifts.new result }
+    ensures spends { SpendsResults table.new shifts.old shifts.new result }
 {
     let mut inner = kept.inner(table, symbols, after);
     let equal = is_walk(table, shifts, &mut inner, program, fuel, index, after, goal)?;
@@ -115,7 +115,7 @@ fn is_side(
         IfOk result (λ b. IsTrue b ↔ (tree_at t goal ≡ made)) }
     ensures extends { Extends table.old table.new }
     ensures walking { Compares table.new program.now symbols.now shifts.new kept.new }
-    ensures spends { Spends table.new shifts.old shifts.new result }
+    ensures spends { SpendsResults table.new shifts.old shifts.new result }
 {
     let Some(parts) = sides(table, IMP, goal) else {
         return Ok(false);
@@ -156,7 +156,7 @@ fn is_both(
         IfOk result (λ b. IsTrue b ↔ (tree_at t goal ≡ made)) }
     ensures extends { Extends table.old table.new }
     ensures walking { Compares table.new program.now symbols.now shifts.new kept.new }
-    ensures spends { Spends table.new shifts.old shifts.new result }
+    ensures spends { SpendsResults table.new shifts.old shifts.new result }
 {
     let Some(parts) = sides(table, AND, goal) else {
         return Ok(false);
@@ -197,7 +197,7 @@ fn is_behind(
         IfOk result (λ b. IsTrue b ↔ (tree_at t goal ≡ made)) }
     ensures extends { Extends table.old table.new }
     ensures walking { Compares table.new program.now symbols.now shifts.new kept.new }
-    ensures spends { Spends table.new shifts.old shifts.new result }
+    ensures spends { SpendsResults table.new shifts.old shifts.new result }
 {
     let Some(parts) = sides(table, AND, goal) else {
         return Ok(false);
@@ -237,7 +237,7 @@ fn is_insn(
         IfOk result (λ b. IsTrue b ↔ (tree_at t goal ≡ made)) }
     ensures extends { Extends table.old table.new }
     ensures walking { Compares table.new program.now symbols.now shifts.new kept.new }
-    ensures spends { Spends table.new shifts.old shifts.new result }
+    ensures spends { SpendsResults table.new shifts.old shifts.new result }
 {
     let insn = program.code.insn(index);
     let next = index + 1;
@@ -288,7 +288,7 @@ fn is_insn_with(
         IfOk result (λ b. IsTrue b ↔ (tree_at t goal ≡ made)) }
     ensures extends { Extends table.old table.new }
     ensures walking { Compares table.new program.now symbols.now shifts.new kept.new }
-    ensures spends { Spends table.new shifts.old shifts.new result }
+    ensures spends { SpendsResults table.new shifts.old shifts.new result }
 {
     let mut inner = kept.inner(table, symbols, after);
     let equal = is_insn(table, shifts, &mut inner, program, fuel, index, after, goal)?;
@@ -323,7 +323,7 @@ fn is_counted(
         IfOk result (λ b. IsTrue b ↔ (tree_at t goal ≡ and_term here rest)) }
     ensures extends { Extends table.old table.new }
     ensures walking { Compares table.new program.now symbols.now shifts.new kept.new }
-    ensures spends { Spends table.new shifts.old shifts.new result }
+    ensures spends { SpendsResults table.new shifts.old shifts.new result }
 {
     let Some(parts) = sides(table, AND, goal) else {
         return Ok(false);
@@ -364,7 +364,7 @@ pub(crate) fn is_walk_from(
         IfOk result (λ b. IsTrue b ↔ (tree_at t goal ≡ made)) }
     ensures extends { Extends table.old table.new }
     ensures walking { Compares table.new program.now symbols.now shifts.new kept.new }
-    ensures spends { Spends table.new shifts.old shifts.new result }
+    ensures spends { SpendsResults table.new shifts.old shifts.new result }
 {
     match program.bound {
         None => is_insn(table, shifts, kept, program, fuel, index, symbols, goal),
@@ -392,7 +392,7 @@ pub(crate) fn is_walk_entry(
         IfOk result (λ b. IsTrue b ↔ (tree_at t goal ≡ walk 0 (entry_terms p.bound))) }
     ensures extends { Extends table.old table.new }
     ensures walking { Compares table.new program.now start.now shifts.new kept.new }
-    ensures spends { Spends table.new shifts.old shifts.new result }
+    ensures spends { SpendsResults table.new shifts.old shifts.new result }
 {
     let count = program.code.count();
     match program.bound {

@@ -8,7 +8,7 @@ ghost use Rattle.std.specs.Prelude.{◌≡◌, ◌↔◌, ◌<◌, ◌^◌, IfOk
 ghost use Rattle.term_table.specs.Table.{IsKnown, tree_at, Extends};
 ghost use Rattle.term_table.specs.Measures.{height_of};
 ghost use Rattle.hereditary_subst.specs.Kept.{IsMemo};
-ghost use Rattle.hereditary_subst.specs.Limits.{Spends};
+ghost use Rattle.hereditary_subst.specs.Limits.{SpendsResults};
 ghost use Rattle.lf_encode.specs.PutTree.{machine_terms_at, put_tree};
 ghost use Rattle.lf_encode.specs.Kept.{AreMachineTerms};
 ghost use Rattle.vcgen.specs.Symbols.{ids_of};
@@ -126,7 +126,7 @@ fn is_left_alone(
         IfOk result (λ b. IsTrue b → tree_at t goal ≡ put) }
     ensures shifts { IsMemo table.now shifts.new }
     ensures kept { AreComparisons table.now (ids_of symbols.now) kept.new }
-    ensures spends { Spends table.now shifts.old shifts.new result }
+    ensures spends { SpendsResults table.now shifts.old shifts.new result }
 {
     if !table.same(goal, id) {
         return Ok(false);
@@ -156,7 +156,7 @@ pub(crate) fn is_put_by(
     ensures extends { Extends table.old table.new }
     ensures shifts { IsMemo table.new shifts.new }
     ensures kept { AreComparisons table.new (ids_of symbols.now) kept.new }
-    ensures spends { Spends table.new shifts.old shifts.new result }
+    ensures spends { SpendsResults table.new shifts.old shifts.new result }
 {
     if is_left_alone(table, shifts, kept, id, symbols, goal)? {
         return Ok(true);

@@ -8,7 +8,7 @@ ghost use Rattle.std.specs.Prelude.{◌≡◌, ◌↔◌, ℕ, ◌<◌, ◌≤�
 ghost use Rattle.alpha_cfg.specs.Cuts.{AreFlags};
 ghost use Rattle.term_table.specs.Table.{IsKnown, tree_at, Extends, id_trees};
 ghost use Rattle.hereditary_subst.specs.Kept.{IsMemo};
-ghost use Rattle.hereditary_subst.specs.Limits.{Spends};
+ghost use Rattle.hereditary_subst.specs.Limits.{SpendsResults};
 ghost use Rattle.lf_signature.specs.Terms.{imp_term};
 ghost use Rattle.lf_encode.specs.PutTree.{machine_terms_at};
 ghost use Rattle.lf_encode.specs.Contexts.{machine_context, encoding_in};
@@ -57,7 +57,7 @@ fn is_entry(
         IfOk result (λ b. IsTrue b ↔ (tree_at t goal ≡ made)) }
     ensures extends { Extends table.old table.new }
     ensures walking { Compares table.new program.now start.now shifts.new kept.new }
-    ensures spends { Spends table.new shifts.old shifts.new result }
+    ensures spends { SpendsResults table.new shifts.old shifts.new result }
 {
     let Some(parts) = closed_sides(table, program.bound, goal) else {
         return Ok(false);
@@ -94,7 +94,7 @@ fn is_inv_part(
         IfOk result (λ b. IsTrue b ↔ (tree_at t goal ≡ made)) }
     ensures extends { Extends table.old table.new }
     ensures walking { Compares table.new program.now start.now shifts.new kept.new }
-    ensures spends { Spends table.new shifts.old shifts.new result }
+    ensures spends { SpendsResults table.new shifts.old shifts.new result }
 {
     let Some(parts) = closed_sides(table, program.bound, goal) else {
         return Ok(false);
@@ -131,7 +131,7 @@ fn are_inv_parts(
         IfOk result (λ b. IsTrue b ↔ (tree_at t goal ≡ made)) }
     ensures extends { Extends table.old table.new }
     ensures shifts { IsMemo table.new shifts.new }
-    ensures spends { Spends table.new shifts.old shifts.new result }
+    ensures spends { SpendsResults table.new shifts.old shifts.new result }
 {
     if from == program.invs.len() {
         let truth = table.intern(Node::Const(TT))?;
@@ -172,7 +172,7 @@ fn is_condition_of(
         IfOk result (λ b. IsTrue b ↔ (tree_at t goal ≡ made)) }
     ensures extends { Extends table.old table.new }
     ensures shifts { IsMemo table.new shifts.new }
-    ensures spends { Spends table.new shifts.old shifts.new result }
+    ensures spends { SpendsResults table.new shifts.old shifts.new result }
 {
     let Some(parts) = sides(table, AND, goal) else {
         return Ok(false);
@@ -210,7 +210,7 @@ fn is_encoded_condition(
         IfOk result (λ b. IsTrue b ↔ (tree_at t goal ≡ made)) }
     ensures extends { Extends table.old table.new }
     ensures shifts { IsMemo table.new shifts.new }
-    ensures spends { Spends table.new shifts.old shifts.new result }
+    ensures spends { SpendsResults table.new shifts.old shifts.new result }
 {
     let _ = code.insns(); // tells the prover that this is code
     policy.laws(); // tells the prover what the formulas name, and that they aren't high

@@ -5,7 +5,7 @@ ghost use Rattle.term_table.specs.Tree.{App, Lam, Var};
 ghost use Rattle.term_table.specs.Scope.{is_scoped};
 ghost use Rattle.term_table.specs.Table.{TableView, IsKnown, tree_at};
 ghost use Rattle.hereditary_subst.specs.Kept.{IsMemo};
-ghost use Rattle.hereditary_subst.specs.Limits.{left_of, Spends, charge};
+ghost use Rattle.hereditary_subst.specs.Limits.{left_of, SpendsResults, charge};
 ghost use Rattle.lf_encode.specs.PutTree.{machine_terms_at, put_for, put_tree};
 ghost use Rattle.lf_encode.specs.Kept.{AreMachineTerms};
 ghost use Rattle.vcgen.specs.Symbols.{ids_of};
@@ -69,7 +69,7 @@ impl Uses {
         ensures shifts { IsMemo table.now shifts.new }
         ensures left { OnOk result (left_of shifts.old ≡ left_of shifts.new + charge shifts.old 1) }
         ensures uses { AreUses table.now self.new }
-        ensures spends { Spends table.now shifts.old shifts.new result }
+        ensures spends { SpendsResults table.now shifts.old shifts.new result }
     {
         let _ = table; // only the clauses speak of it
         shifts.spend()?;
@@ -103,7 +103,7 @@ pub(crate) fn lacks(
     ensures lacks { IfOk result (λ b. IsTrue b → IsFreeOf variable (tree_at table.now id)) }
     ensures shifts { IsMemo table.now shifts.new }
     ensures uses { AreUses table.now uses.new }
-    ensures spends { Spends table.now shifts.old shifts.new result }
+    ensures spends { SpendsResults table.now shifts.old shifts.new result }
 {
     if is_within(table, id, variable) {
         return Ok(true);
@@ -136,7 +136,7 @@ fn lacks_both(
     ensures lacks { IfOk result (λ b. IsTrue b → IsFreeOf variable (tree_at table.now id)) }
     ensures shifts { IsMemo table.now shifts.new }
     ensures uses { AreUses table.now uses.new }
-    ensures spends { Spends table.now shifts.old shifts.new result }
+    ensures spends { SpendsResults table.now shifts.old shifts.new result }
 {
     let place = Place {
         id: id.index() as u64,
@@ -205,7 +205,7 @@ fn is_idle(
         IfOk result (λ b. IsTrue b → IsIdle k terms (tree_at t id)) }
     ensures shifts { IsMemo table.now shifts.new }
     ensures uses { AreUses table.now uses.new }
-    ensures spends { Spends table.now shifts.old shifts.new result }
+    ensures spends { SpendsResults table.now shifts.old shifts.new result }
 {
     table.laws();
     let term = term_of(table, symbols, k);
@@ -249,7 +249,7 @@ fn are_idle(
         IfOk result (λ b. IsTrue b → AreIdleFrom k terms (tree_at t id)) }
     ensures shifts { IsMemo table.now shifts.new }
     ensures uses { AreUses table.now uses.new }
-    ensures spends { Spends table.now shifts.old shifts.new result }
+    ensures spends { SpendsResults table.now shifts.old shifts.new result }
 {
     if k >= 33 {
         return Ok(true);
@@ -278,7 +278,7 @@ pub(crate) fn stays(
         IfOk result (λ b. IsTrue b → put_tree terms 0 (tree_at t id) ≡ tree_at t id) }
     ensures shifts { IsMemo table.now shifts.new }
     ensures uses { AreUses table.now uses.new }
-    ensures spends { Spends table.now shifts.old shifts.new result }
+    ensures spends { SpendsResults table.now shifts.old shifts.new result }
 {
     if !is_within(table, id, 33) {
         return Ok(false);

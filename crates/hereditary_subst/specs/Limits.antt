@@ -38,8 +38,8 @@ IsSpent t m = (is_limited m ≡ true) × (length t.trees ≤ MOST_TREES → left
 
 -- what a call says that is given a memo and leaves it, and the table, so: there is a limit if there was, no more is left of
 -- it, and if the answer is `Results`, it is spent
-abbrev pub Spends : {A : Type 0} → TableView → Memo → Memo → Result A Exhausted → Type 0
-Spends t old new r = (is_limited new ≡ is_limited old) × (left_of new ≤ left_of old) × IfErr r (λ e. e ≡ Results → IsSpent t new)
+abbrev pub SpendsResults : {A : Type 0} → TableView → Memo → Memo → Result A Exhausted → Type 0
+SpendsResults t old new r = (is_limited new ≡ is_limited old) × (left_of new ≤ left_of old) × IfErr r (λ e. e ≡ Results → IsSpent t new)
 
 -- the answer isn't `Results`
 abbrev pub NeverResults : {A : Type 0} → Result A Exhausted → Type 0

@@ -15,7 +15,7 @@ ghost use Rattle.hereditary_subst.specs.Limits.{
   results_of,
   Counts,
   IsSpent,
-  Spends,
+  SpendsResults,
 };
 
 use crate::MOST_TREES;
@@ -237,7 +237,7 @@ impl Memo {
         requires memo { IsMemo table.now self.old }
         requires says { Says table.now question term met }
         ensures memo { IsMemo table.now self.new }
-        ensures spends { Spends table.now self.old self.new result }
+        ensures spends { SpendsResults table.now self.old self.new result }
         ensures left { OnOk result (left_of self.old ≡ left_of self.new + charge self.old 1) }
     {
         if self.is_crowded(table) {

@@ -18,7 +18,7 @@ mod substitute;
 
 ghost use Rattle.std.specs.Prelude.{◌≡◌, ◌<◌, ◌≤◌, ◌+◌, ◌^◌, IfOk, OnOk};
 ghost use Rattle.hereditary_subst.specs.Kept.{IsMemo};
-ghost use Rattle.hereditary_subst.specs.Limits.{Spends};
+ghost use Rattle.hereditary_subst.specs.Limits.{SpendsResults};
 ghost use Rattle.term_table.specs.Tree.{shifted};
 ghost use Rattle.term_table.specs.Subst.{HSub, HSubType, hsub, hsub_type, erase};
 ghost use Rattle.term_table.specs.Table.{IsKnown, tree_at, Extends, Stands};
@@ -96,7 +96,7 @@ pub fn weaken_with(
     ensures tree { IfOk result (Stands table.new (shifted by 0 (tree_at table.old id))) }
     ensures extends { Extends table.old table.new }
     ensures memo { IsMemo table.new memo.new }
-    ensures spends { Spends table.new memo.old memo.new result }
+    ensures spends { SpendsResults table.new memo.old memo.new result }
 {
     table.laws();
     shift_at(table, memo, id, by, 0)
@@ -200,7 +200,7 @@ pub fn subst_type_with(
         IfOk result (Stands table.new (hsub_type s m 0 t)) }
     ensures extends { Extends table.old table.new }
     ensures memo { IsMemo table.new memo.new }
-    ensures spends { Spends table.new memo.old memo.new result }
+    ensures spends { SpendsResults table.new memo.old memo.new result }
 {
     substitution_laws();
     table.laws();

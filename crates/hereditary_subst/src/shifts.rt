@@ -5,7 +5,7 @@ ghost use Rattle.term_table.specs.Tree.{shifted, Var};
 ghost use Rattle.term_table.specs.Scope.{is_scoped, is_term_shape};
 ghost use Rattle.term_table.specs.Table.{IsKnown, tree_at, Extends, Stands};
 ghost use Rattle.hereditary_subst.specs.Kept.{IsMemo, Lowers};
-ghost use Rattle.hereditary_subst.specs.Limits.{Spends};
+ghost use Rattle.hereditary_subst.specs.Limits.{SpendsResults};
 
 use crate::exhausted::Exhausted;
 use crate::kept::{Memo, Question, number};
@@ -65,7 +65,7 @@ pub(crate) fn shift_at(
     ensures tree { IfOk result (Stands table.new (shifted by from (tree_at table.old id))) }
     ensures extends { Extends table.old table.new }
     ensures memo { IsMemo table.new memo.new }
-    ensures spends { Spends table.new memo.old memo.new result }
+    ensures spends { SpendsResults table.new memo.old memo.new result }
 {
     table.laws();
     if is_within(table, id, from) {
@@ -106,7 +106,7 @@ fn shift_parts(
     ensures tree { IfOk result (Stands table.new (shifted by from (tree_at table.old id))) }
     ensures extends { Extends table.old table.new }
     ensures memo { IsMemo table.new memo.new }
-    ensures spends { Spends table.new memo.old memo.new result }
+    ensures spends { SpendsResults table.new memo.old memo.new result }
 {
     match table.node(id) {
         Node::Var(n) => Ok(shift_variable(table, id, n, by, from)?),
@@ -171,7 +171,7 @@ fn shift_type_parts(
     ensures tree { IfOk result (Stands table.new (shifted by from (tree_at table.old id))) }
     ensures extends { Extends table.old table.new }
     ensures memo { IsMemo table.new memo.new }
-    ensures spends { Spends table.new memo.old memo.new result }
+    ensures spends { SpendsResults table.new memo.old memo.new result }
 {
     match table.node(id) {
         Node::TApp(p, a) => {
@@ -212,7 +212,7 @@ pub(crate) fn lower_at(
     ensures tree { IfOk result (Lowers table.new x (tree_at table.old id)) }
     ensures extends { Extends table.old table.new }
     ensures memo { IsMemo table.new memo.new }
-    ensures spends { Spends table.new memo.old memo.new result }
+    ensures spends { SpendsResults table.new memo.old memo.new result }
 {
     if is_within(table, id, x) {
         return Ok(Some(id));
@@ -252,7 +252,7 @@ fn lower_parts(table: &mut Table, memo: &mut Memo, id: Id, x: u64) -> Result<Opt
     ensures tree { IfOk result (Lowers table.new x (tree_at table.old id)) }
     ensures extends { Extends table.old table.new }
     ensures memo { IsMemo table.new memo.new }
-    ensures spends { Spends table.new memo.old memo.new result }
+    ensures spends { SpendsResults table.new memo.old memo.new result }
 {
     match table.node(id) {
         Node::Var(n) => Ok(lower_variable(table, id, n, x)?),
@@ -307,7 +307,7 @@ fn lower_type_parts(
     ensures tree { IfOk result (Lowers table.new x (tree_at table.old id)) }
     ensures extends { Extends table.old table.new }
     ensures memo { IsMemo table.new memo.new }
-    ensures spends { Spends table.new memo.old memo.new result }
+    ensures spends { SpendsResults table.new memo.old memo.new result }
 {
     match table.node(id) {
         Node::TApp(p, a) => {

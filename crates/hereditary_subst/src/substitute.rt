@@ -8,7 +8,7 @@ ghost use Rattle.term_table.specs.Scope.{is_term_shape};
 ghost use Rattle.term_table.specs.Table.{IsKnown, tree_at, Extends, Stands};
 ghost use Rattle.hereditary_subst.specs.Heads.{put_of, put_type_of, HeadPut, HeadApplied};
 ghost use Rattle.hereditary_subst.specs.Kept.{IsMemo};
-ghost use Rattle.hereditary_subst.specs.Limits.{Spends};
+ghost use Rattle.hereditary_subst.specs.Limits.{SpendsResults};
 ghost use Rattle.hereditary_subst.specs.Inside.Spare.{IsLowerable, Spares};
 
 use crate::exhausted::Exhausted;
@@ -53,7 +53,7 @@ fn spare_at(
     ensures tree { IfOk result (Spares table.new (tree_at table.old m) x (tree_at table.old id)) }
     ensures extends { Extends table.old table.new }
     ensures memo { IsMemo table.new memo.new }
-    ensures spends { Spends table.new memo.old memo.new result }
+    ensures spends { SpendsResults table.new memo.old memo.new result }
 {
     let Some(r) = lower_at(table, memo, id, x)? else {
         return Ok(None);
@@ -83,7 +83,7 @@ pub(crate) fn subst_at(
     ensures tree { IfOk result (Stands table.new (put_of table.old ty m x id)) }
     ensures extends { Extends table.old table.new }
     ensures memo { IsMemo table.new memo.new }
-    ensures spends { Spends table.new memo.old memo.new result }
+    ensures spends { SpendsResults table.new memo.old memo.new result }
 {
     if let Node::Lam(b) = table.node(id) {
         return subst_under(table, memo, id, b, m, x, ty);
@@ -117,7 +117,7 @@ fn subst_under(
     ensures tree { IfOk result (Stands table.new (put_of table.old ty m x id)) }
     ensures extends { Extends table.old table.new }
     ensures memo { IsMemo table.new memo.new }
-    ensures spends { Spends table.new memo.old memo.new result }
+    ensures spends { SpendsResults table.new memo.old memo.new result }
 {
     if let Some(r) = spare_at(table, memo, id, m, x)? {
         return Ok(Some(r));
@@ -156,7 +156,7 @@ fn head_at(
     ensures tree { IfOk result (HeadPut table.old ty m x id table.new) }
     ensures extends { Extends table.old table.new }
     ensures memo { IsMemo table.new memo.new }
-    ensures spends { Spends table.new memo.old memo.new result }
+    ensures spends { SpendsResults table.new memo.old memo.new result }
 {
     match table.node(id) {
         Node::Var(n) => Ok(head_variable(table, id, n, m, x, ty)?),
@@ -224,7 +224,7 @@ fn head_kept(
     ensures tree { IfOk result (HeadPut table.old ty m x id table.new) }
     ensures extends { Extends table.old table.new }
     ensures memo { IsMemo table.new memo.new }
-    ensures spends { Spends table.new memo.old memo.new result }
+    ensures spends { SpendsResults table.new memo.old memo.new result }
 {
     if let Some(term) = spare_at(table, memo, id, m, x)? {
         return Ok(Some(Atom { term, met: None }));
@@ -266,7 +266,7 @@ fn head_parts(
     ensures tree { IfOk result (HeadPut table.old ty m x id table.new) }
     ensures extends { Extends table.old table.new }
     ensures memo { IsMemo table.new memo.new }
-    ensures spends { Spends table.new memo.old memo.new result }
+    ensures spends { SpendsResults table.new memo.old memo.new result }
 {
     let Some(b) = subst_at(table, memo, a, m, x, ty)? else {
         return Ok(None);
@@ -299,7 +299,7 @@ fn reduce_at(
     ensures tree { IfOk result (HeadApplied table.old u g b table.new) }
     ensures extends { Extends table.old table.new }
     ensures memo { IsMemo table.new memo.new }
-    ensures spends { Spends table.new memo.old memo.new result }
+    ensures spends { SpendsResults table.new memo.old memo.new result }
 {
     table.laws();
     let Node::Lam(body) = table.node(g) else {
@@ -348,7 +348,7 @@ pub(crate) fn subst_type_at(
     ensures tree { IfOk result (Stands table.new (put_type_of table.old ty m x id)) }
     ensures extends { Extends table.old table.new }
     ensures memo { IsMemo table.new memo.new }
-    ensures spends { Spends table.new memo.old memo.new result }
+    ensures spends { SpendsResults table.new memo.old memo.new result }
 {
     if is_term(table, id) {
         return Ok(None);
@@ -386,7 +386,7 @@ fn subst_type_parts(
     ensures tree { IfOk result (Stands table.new (put_type_of table.old ty m x id)) }
     ensures extends { Extends table.old table.new }
     ensures memo { IsMemo table.new memo.new }
-    ensures spends { Spends table.new memo.old memo.new result }
+    ensures spends { SpendsResults table.new memo.old memo.new result }
 {
     match table.node(id) {
         Node::Fam(_) => Ok(Some(id)),
@@ -427,7 +427,7 @@ fn subst_product(
     ensures tree { IfOk result (Stands table.new (put_type_of table.old ty m x id)) }
     ensures extends { Extends table.old table.new }
     ensures memo { IsMemo table.new memo.new }
-    ensures spends { Spends table.new memo.old memo.new result }
+    ensures spends { SpendsResults table.new memo.old memo.new result }
 {
     let Some(c) = subst_type_at(table, memo, a, m, x, ty)? else {
         return Ok(None);

@@ -5,7 +5,7 @@ ghost use Rattle.term_table.specs.Tree.{at};
 ghost use Rattle.term_table.specs.Table.{IsKnown, AllKnown, tree_at, ctx_of, Extends, Stands};
 ghost use Rattle.lf_check.specs.Lists.{types_of, IsPart, IsContextId};
 ghost use Rattle.lf_check.specs.Uses.{member, past, AgreeOn};
-ghost use Rattle.hereditary_subst.specs.Limits.{Spends};
+ghost use Rattle.hereditary_subst.specs.Limits.{SpendsResults};
 ghost use Rattle.lf_check.specs.Kept.{AreKept, IsJudgement, subject};
 
 use crate::judgements::{Kept, Question};
@@ -60,7 +60,7 @@ pub(crate) fn type_at<S: Signature>(
     requires kept { AreKept (S.declares sig.now table.now) table.now kept.old }
     ensures tree { IfOk result (Stands table.now (at (types_of (tree_at table.now c)) n)) }
     ensures kept { AreKept (S.declares sig.now table.now) table.now kept.new }
-    ensures spends { Spends table.now kept.old.memo kept.new.memo result }
+    ensures spends { SpendsResults table.now kept.old.memo kept.new.memo result }
 {
     match table.node(c) {
         Node::TApp(p, a) => {
@@ -93,7 +93,7 @@ fn agree_on<S: Signature>(
         let set = member (tree_at table.now s) in
         IfOk result (λ b. IsTrue b → AgreeOn set types other) }
     ensures kept { AreKept (S.declares sig.now table.now) table.now kept.new }
-    ensures spends { Spends table.now kept.old.memo kept.new.memo result }
+    ensures spends { SpendsResults table.now kept.old.memo kept.new.memo result }
 {
     if !is_set(table, s) {
         return Ok(true);
@@ -123,7 +123,7 @@ fn agree_past<S: Signature>(
         let set = past gap (member (tree_at table.now rest)) in
         IfOk result (λ b. IsTrue b → AgreeOn set types other) }
     ensures kept { AreKept (S.declares sig.now table.now) table.now kept.new }
-    ensures spends { Spends table.now kept.old.memo kept.new.memo result }
+    ensures spends { SpendsResults table.now kept.old.memo kept.new.memo result }
 {
     if table.same(c, d) {
         return Ok(true);
@@ -163,7 +163,7 @@ fn is_alike<S: Signature>(
         IfOk result (λ b. IsTrue b → IsPart (tree_at table.old m) types other) }
     ensures extends { Extends table.old table.new }
     ensures kept { AreKept (S.declares sig.now table.new) table.new kept.new }
-    ensures spends { Spends table.new kept.old.memo kept.new.memo result }
+    ensures spends { SpendsResults table.new kept.old.memo kept.new.memo result }
 {
     if table.same(c, d) {
         return Ok(true);
@@ -191,7 +191,7 @@ pub(crate) fn answer_on<S: Signature>(
         IfOk result (λ o. IfSome o (IsJudgement declared table.new question.now c)) }
     ensures extends { Extends table.old table.new }
     ensures kept { AreKept (S.declares sig.now table.new) table.new kept.new }
-    ensures spends { Spends table.new kept.old.memo kept.new.memo result }
+    ensures spends { SpendsResults table.new kept.old.memo kept.new.memo result }
 {
     let Some(found) = kept.find(table, sig, question) else {
         return Ok(None);

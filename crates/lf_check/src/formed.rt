@@ -5,7 +5,7 @@ ghost use Rattle.std.specs.Prelude.{◌≡◌, ◌<◌, IfOk};
 ghost use Rattle.term_table.specs.Tree.{Pi};
 ghost use Rattle.term_table.specs.Table.{IsKnown, tree_at, Extends};
 ghost use Rattle.lf_check.specs.Inside.Families.{is_proofs};
-ghost use Rattle.hereditary_subst.specs.Limits.{Spends};
+ghost use Rattle.hereditary_subst.specs.Limits.{SpendsResults};
 ghost use Rattle.lf_check.specs.Kept.{AreKept, is_type_in};
 
 use crate::contexts::answer_on;
@@ -50,7 +50,7 @@ pub(crate) fn is_type_at<S: Signature>(
         (λ b. b ≡ is_type_in (S.declares sig.now table.old) table.old c a) }
     ensures extends { Extends table.old table.new }
     ensures kept { AreKept (S.declares sig.now table.new) table.new kept.new }
-    ensures spends { Spends table.new kept.old.memo kept.new.memo result }
+    ensures spends { SpendsResults table.new kept.old.memo kept.new.memo result }
 {
     match table.node(a) {
         Node::Fam(family) => Ok(family < PF),
@@ -87,7 +87,7 @@ fn product_at<S: Signature>(
         (λ b. b ≡ is_type_in (S.declares sig.now table.old) table.old c a) }
     ensures extends { Extends table.old table.new }
     ensures kept { AreKept (S.declares sig.now table.new) table.new kept.new }
-    ensures spends { Spends table.new kept.old.memo kept.new.memo result }
+    ensures spends { SpendsResults table.new kept.old.memo kept.new.memo result }
 {
     let question = Question::Formed(number(a));
     if let Some(_) = answer_on(table, kept, sig, &question, c, a)? {

@@ -8,7 +8,7 @@
 ghost use Rattle.std.specs.Prelude.{◌≡◌, ◌+◌, true, false, IfSome, OnOk, Option};
 ghost use Rattle.term_table.specs.Tree.{Tree, Const};
 ghost use Rattle.term_table.specs.Table.{TableView, IsKnown};
-ghost use Rattle.hereditary_subst.specs.Limits.{is_limited, left_of, charge, Counts, Spends};
+ghost use Rattle.hereditary_subst.specs.Limits.{is_limited, left_of, charge, Counts, SpendsResults};
 ghost use Rattle.lf_check.specs.Kept.{AreKept, IsJudgement, IsStepCounted};
 
 use hereditary_subst::{Exhausted, Memo};
@@ -124,7 +124,7 @@ impl Kept {
     pub(crate) fn step<S: Signature>(&mut self, table: &Table, sig: &S) -> Result<(), Exhausted>
         requires { AreKept (S.declares sig.now table.now) table.now self.old }
         ensures kept { AreKept (S.declares sig.now table.now) table.now self.new }
-        ensures spends { Spends table.now self.old.memo self.new.memo result }
+        ensures spends { SpendsResults table.now self.old.memo self.new.memo result }
         ensures counted { OnOk result (IsStepCounted self.old self.new) }
     {
         let _ = table; // only the clauses speak of it
@@ -197,7 +197,7 @@ impl Kept {
         requires judges { let declared = S.declares sig.now table.now in
             IsJudgement declared table.now question context answer }
         ensures kept { AreKept (S.declares sig.now table.now) table.now self.new }
-        ensures spends { Spends table.now self.old.memo self.new.memo result }
+        ensures spends { SpendsResults table.now self.old.memo self.new.memo result }
         ensures left { let counted = charge self.old.memo 1 in
             OnOk result (left_of self.old.memo ≡ left_of self.new.memo + counted) }
     {

@@ -5,7 +5,7 @@ ghost use Rattle.term_table.specs.Tree.{shifted};
 ghost use Rattle.term_table.specs.Table.{IsKnown, PartsKnown, tree_at, node_tree, Extends, Stands};
 ghost use Rattle.hereditary_subst.specs.Heads.{put_type_of};
 ghost use Rattle.lf_signature.specs.Nodes.{type_at};
-ghost use Rattle.hereditary_subst.specs.Limits.{Spends};
+ghost use Rattle.hereditary_subst.specs.Limits.{SpendsResults};
 ghost use Rattle.lf_check.specs.Kept.{AreKept};
 
 use crate::judgements::Kept;
@@ -49,7 +49,7 @@ pub(crate) fn weaken_on<S: Signature>(
     ensures tree { IfOk result (Stands table.new (shifted by 0 (tree_at table.old id))) }
     ensures extends { Extends table.old table.new }
     ensures kept { AreKept (S.declares sig.now table.new) table.new kept.new }
-    ensures spends { Spends table.new kept.old.memo kept.new.memo result }
+    ensures spends { SpendsResults table.new kept.old.memo kept.new.memo result }
 {
     let _ = sig; // only the clauses speak of it
     weaken_with(table, &mut kept.memo, id, by)
@@ -72,7 +72,7 @@ pub(crate) fn subst_on<S: Signature>(
     ensures tree { IfOk result (Stands table.new (put_type_of table.old ty arg 0 body)) }
     ensures extends { Extends table.old table.new }
     ensures kept { AreKept (S.declares sig.now table.new) table.new kept.new }
-    ensures spends { Spends table.new kept.old.memo kept.new.memo result }
+    ensures spends { SpendsResults table.new kept.old.memo kept.new.memo result }
 {
     let _ = sig; // only the clauses speak of it
     subst_type_with(table, &mut kept.memo, body, arg, ty)

@@ -10,7 +10,7 @@ ghost use Rattle.term_table.specs.Tree.{App, Lam, Pi, TApp, Var};
 ghost use Rattle.term_table.specs.Table.{IsKnown, tree_at, Extends};
 ghost use Rattle.lf_check.specs.Uses.{is_variable, is_set, member, past, empty};
 ghost use Rattle.lf_check.specs.Uses.{IsUnion, Covers};
-ghost use Rattle.hereditary_subst.specs.Limits.{Spends};
+ghost use Rattle.hereditary_subst.specs.Limits.{SpendsResults};
 ghost use Rattle.lf_check.specs.Kept.{AreKept};
 
 use crate::judgements::{Kept, Question, number};
@@ -72,7 +72,7 @@ fn with_first<S: Signature>(
         × (tree_at table.new u ≡ App (Var gap) (tree_at table.old rest))) }
     ensures extends { Extends table.old table.new }
     ensures kept { AreKept (S.declares sig.now table.new) table.new kept.new }
-    ensures spends { Spends table.new kept.old.memo kept.new.memo result }
+    ensures spends { SpendsResults table.new kept.old.memo kept.new.memo result }
 {
     kept.spend(table, sig)?;
     let first = intern_on(table, kept, sig, Node::Var(gap))?;
@@ -97,7 +97,7 @@ fn joined<S: Signature>(
         IfOk result (IsUnion table.new one other) }
     ensures extends { Extends table.old table.new }
     ensures kept { AreKept (S.declares sig.now table.new) table.new kept.new }
-    ensures spends { Spends table.new kept.old.memo kept.new.memo result }
+    ensures spends { SpendsResults table.new kept.old.memo kept.new.memo result }
 {
     if table.same(s, r) {
         return Ok(r);
@@ -128,7 +128,7 @@ fn joined_past<S: Signature>(
         IfOk result (IsUnion table.new one other) }
     ensures extends { Extends table.old table.new }
     ensures kept { AreKept (S.declares sig.now table.new) table.new kept.new }
-    ensures spends { Spends table.new kept.old.memo kept.new.memo result }
+    ensures spends { SpendsResults table.new kept.old.memo kept.new.memo result }
 {
     if !is_set(table, r) {
         return with_first(table, kept, sig, gap, s);
@@ -157,7 +157,7 @@ fn joined_both<S: Signature>(
         IfOk result (IsUnion table.new one other) }
     ensures extends { Extends table.old table.new }
     ensures kept { AreKept (S.declares sig.now table.new) table.new kept.new }
-    ensures spends { Spends table.new kept.old.memo kept.new.memo result }
+    ensures spends { SpendsResults table.new kept.old.memo kept.new.memo result }
 {
     if g < h {
         let rest = joined_past(table, kept, sig, h - g - 1, r, s)?;
@@ -187,7 +187,7 @@ fn outside<S: Signature>(
         inside (suc i) ≡ true → member (tree_at table.new u) i ≡ true) }
     ensures extends { Extends table.old table.new }
     ensures kept { AreKept (S.declares sig.now table.new) table.new kept.new }
-    ensures spends { Spends table.new kept.old.memo kept.new.memo result }
+    ensures spends { SpendsResults table.new kept.old.memo kept.new.memo result }
 {
     if !is_set(table, s) {
         return Ok(s);
@@ -215,7 +215,7 @@ pub(crate) fn uses_at<S: Signature>(
         (λ u. Covers (tree_at table.new u) (tree_at table.old m)) }
     ensures extends { Extends table.old table.new }
     ensures kept { AreKept (S.declares sig.now table.new) table.new kept.new }
-    ensures spends { Spends table.new kept.old.memo kept.new.memo result }
+    ensures spends { SpendsResults table.new kept.old.memo kept.new.memo result }
 {
     let none = intern_on(table, kept, sig, Node::Fam(0))?;
     if table.reach(m) == 0 {
@@ -252,7 +252,7 @@ fn uses_of_parts<S: Signature>(
         (λ u. Covers (tree_at table.new u) (tree_at table.old m)) }
     ensures extends { Extends table.old table.new }
     ensures kept { AreKept (S.declares sig.now table.new) table.new kept.new }
-    ensures spends { Spends table.new kept.old.memo kept.new.memo result }
+    ensures spends { SpendsResults table.new kept.old.memo kept.new.memo result }
 {
     match table.node(m) {
         Node::App(f, a) => uses_of_both(table, kept, sig, m, f, a),
@@ -284,7 +284,7 @@ fn uses_of_both<S: Signature>(
         (λ u. Covers (tree_at table.new u) (tree_at table.old a)) }
     ensures extends { Extends table.old table.new }
     ensures kept { AreKept (S.declares sig.now table.new) table.new kept.new }
-    ensures spends { Spends table.new kept.old.memo kept.new.memo result }
+    ensures spends { SpendsResults table.new kept.old.memo kept.new.memo result }
 {
     let one = uses_at(table, kept, sig, f)?;
     let other = uses_at(table, kept, sig, a)?;
@@ -309,7 +309,7 @@ fn uses_under<S: Signature>(
         IfOk result (λ u. Covers (tree_at table.new u) lam) }
     ensures extends { Extends table.old table.new }
     ensures kept { AreKept (S.declares sig.now table.new) table.new kept.new }
-    ensures spends { Spends table.new kept.old.memo kept.new.memo result }
+    ensures spends { SpendsResults table.new kept.old.memo kept.new.memo result }
 {
     let inside = uses_at(table, kept, sig, b)?;
     outside(table, kept, sig, inside)
@@ -334,7 +334,7 @@ fn uses_of_product<S: Signature>(
         IfOk result (λ u. Covers (tree_at table.new u) product) }
     ensures extends { Extends table.old table.new }
     ensures kept { AreKept (S.declares sig.now table.new) table.new kept.new }
-    ensures spends { Spends table.new kept.old.memo kept.new.memo result }
+    ensures spends { SpendsResults table.new kept.old.memo kept.new.memo result }
 {
     let domain = uses_at(table, kept, sig, a)?;
     let body = uses_under(table, kept, sig, m, b)?;

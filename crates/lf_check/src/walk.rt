@@ -7,7 +7,7 @@ ghost use Rattle.term_table.specs.Table.{IsKnown, AllKnown, tree_at, Extends, St
 ghost use Rattle.lf_signature.specs.Decide.{is_atomic, var_rule};
 ghost use Rattle.lf_check.specs.Inside.Introductions.{IsIntroduction};
 ghost use Rattle.lf_check.specs.Lists.{types_of};
-ghost use Rattle.hereditary_subst.specs.Limits.{Spends};
+ghost use Rattle.hereditary_subst.specs.Limits.{SpendsResults};
 ghost use Rattle.lf_check.specs.Kept.{AreKept, synth_in, checks_in};
 
 use crate::contexts::{answer_on, type_at};
@@ -45,7 +45,7 @@ fn var_type<S: Signature>(
         (Stands table.new (var_rule n (at (types_of (tree_at table.old c)) n))) }
     ensures extends { Extends table.old table.new }
     ensures kept { AreKept (S.declares sig.now table.new) table.new kept.new }
-    ensures spends { Spends table.new kept.old.memo kept.new.memo result }
+    ensures spends { SpendsResults table.new kept.old.memo kept.new.memo result }
 {
     match type_at(table, kept, sig, c, u64::from(n))? {
         None => Ok(None),
@@ -72,7 +72,7 @@ pub(crate) fn check_at<S: Signature>(
         (λ b. b ≡ checks_in (S.declares sig.now table.old) table.old c m a) }
     ensures extends { Extends table.old table.new }
     ensures kept { AreKept (S.declares sig.now table.new) table.new kept.new }
-    ensures spends { Spends table.new kept.old.memo kept.new.memo result }
+    ensures spends { SpendsResults table.new kept.old.memo kept.new.memo result }
 {
     if let Node::Lam(body) = table.node(m) {
         let Node::Pi(from, to) = table.node(a) else {
@@ -111,7 +111,7 @@ fn under_at<S: Signature>(
         (λ b. b ≡ checks_in (S.declares sig.now table.old) table.old c m a) }
     ensures extends { Extends table.old table.new }
     ensures kept { AreKept (S.declares sig.now table.new) table.new kept.new }
-    ensures spends { Spends table.new kept.old.memo kept.new.memo result }
+    ensures spends { SpendsResults table.new kept.old.memo kept.new.memo result }
 {
     let question = Question::Under(number(m), number(a));
     if let Some(_) = answer_on(table, kept, sig, &question, c, m)? {
@@ -142,7 +142,7 @@ pub(crate) fn synth_at<S: Signature>(
         (Stands table.new (synth_in (S.declares sig.now table.old) table.old c r)) }
     ensures extends { Extends table.old table.new }
     ensures kept { AreKept (S.declares sig.now table.new) table.new kept.new }
-    ensures spends { Spends table.new kept.old.memo kept.new.memo result }
+    ensures spends { SpendsResults table.new kept.old.memo kept.new.memo result }
 {
     match table.node(r) {
         Node::Var(n) => var_type(table, kept, sig, c, n),
@@ -196,7 +196,7 @@ fn application_at<S: Signature>(
         (Stands table.new (synth_in (S.declares sig.now table.old) table.old c r)) }
     ensures extends { Extends table.old table.new }
     ensures kept { AreKept (S.declares sig.now table.new) table.new kept.new }
-    ensures spends { Spends table.new kept.old.memo kept.new.memo result }
+    ensures spends { SpendsResults table.new kept.old.memo kept.new.memo result }
 {
     match introduction_on(table, kept, sig, f, m)? {
         Some(i) => introduced_at(table, kept, sig, c, r, f, m, &i),
@@ -225,7 +225,7 @@ fn applied_at<S: Signature>(
         (Stands table.new (synth_in (S.declares sig.now table.old) table.old c r)) }
     ensures extends { Extends table.old table.new }
     ensures kept { AreKept (S.declares sig.now table.new) table.new kept.new }
-    ensures spends { Spends table.new kept.old.memo kept.new.memo result }
+    ensures spends { SpendsResults table.new kept.old.memo kept.new.memo result }
 {
     let Some(p) = synth_at(table, kept, sig, c, f)? else {
         return Ok(None);
@@ -262,7 +262,7 @@ fn introduced_at<S: Signature>(
         (Stands table.new (synth_in (S.declares sig.now table.old) table.old c r)) }
     ensures extends { Extends table.old table.new }
     ensures kept { AreKept (S.declares sig.now table.new) table.new kept.new }
-    ensures spends { Spends table.new kept.old.memo kept.new.memo result }
+    ensures spends { SpendsResults table.new kept.old.memo kept.new.memo result }
 {
     if !check_at(table, kept, sig, c, i.predicate, i.domain)? {
         return Ok(None);

@@ -8,7 +8,7 @@ ghost use Rattle.std.specs.Prelude.{◌≡◌, ◌↔◌, ◌+◌, ◌<◌, ◌^
 ghost use Rattle.term_table.specs.Table.{IsKnown, tree_at, Extends};
 ghost use Rattle.term_table.specs.Measures.{height_of};
 ghost use Rattle.hereditary_subst.specs.Kept.{IsMemo};
-ghost use Rattle.hereditary_subst.specs.Limits.{Spends};
+ghost use Rattle.hereditary_subst.specs.Limits.{SpendsResults};
 ghost use Rattle.lf_encode.specs.PutTree.{machine_terms_at, put_tree};
 ghost use Rattle.lf_encode.specs.Kept.{IsPutMemo, AreMachineTerms};
 
@@ -41,7 +41,7 @@ fn is_put_at(
     ensures extends { Extends table.old table.new }
     ensures shifts { IsMemo table.new shifts.new }
     ensures kept { IsPutMemo table.new ids.now kept.new }
-    ensures spends { Spends table.new shifts.old shifts.new result }
+    ensures spends { SpendsResults table.new shifts.old shifts.new result }
 {
     if is_near(table, id, depth) {
         return Ok(table.same(goal, id));
@@ -84,7 +84,7 @@ fn is_put_by_parts(
     ensures extends { Extends table.old table.new }
     ensures shifts { IsMemo table.new shifts.new }
     ensures kept { IsPutMemo table.new ids.now kept.new }
-    ensures spends { Spends table.new shifts.old shifts.new result }
+    ensures spends { SpendsResults table.new shifts.old shifts.new result }
 {
     match table.node(id) {
         Node::Var(n) => {
@@ -139,7 +139,7 @@ pub fn is_put_with(
     ensures extends { Extends table.old table.new }
     ensures shifts { IsMemo table.new shifts.new }
     ensures kept { IsPutMemo table.new ids.now kept.new }
-    ensures spends { Spends table.new shifts.old shifts.new result }
+    ensures spends { SpendsResults table.new shifts.old shifts.new result }
 {
     is_put_at(table, shifts, kept, ids, id, 0, goal)
 }

@@ -6,7 +6,7 @@ ghost use Rattle.lf_signature.specs.Decide.{checks_of};
 ghost use Rattle.lf_check.specs.Kept.{AreKept};
 ghost use Rattle.lf_lemmas.specs.Tables.{lemmas_in, LemmasKnown};
 ghost use Rattle.lf_lemma_check.specs.First.{lemma_passes, first_failing};
-ghost use Rattle.hereditary_subst.specs.Limits.{Spends};
+ghost use Rattle.hereditary_subst.specs.Limits.{SpendsResults};
 
 use lf_check::{Exhausted, Kept, check_term_with};
 use lf_signature::numbers::FORM;
@@ -29,7 +29,7 @@ fn checks<S: Signature>(
         (λ b. b ≡ checks_of sig (tree_at table.old term) [] (tree_at table.old a)) }
     ensures extends { Extends table.old table.new }
     ensures kept { AreKept (S.declares sig.now table.new) table.new kept.new }
-    ensures spends { Spends table.new kept.old.memo kept.new.memo result }
+    ensures spends { SpendsResults table.new kept.old.memo kept.new.memo result }
 {
     typing_laws();
     check_term_with(table, kept, sig, &[], term, a)
@@ -61,7 +61,7 @@ fn passes<S: Signature>(
         (λ b. b ≡ lemma_passes sig asked (tree_at table.old formula, tree_at table.old proof)) }
     ensures extends { Extends table.old table.new }
     ensures kept { AreKept (S.declares sig.now table.new) table.new kept.new }
-    ensures spends { Spends table.new kept.old.memo kept.new.memo result }
+    ensures spends { SpendsResults table.new kept.old.memo kept.new.memo result }
 {
     match asked {
         Asked::Formula => {
@@ -92,7 +92,7 @@ fn failing_from<S: Signature>(
         (λ found. found ≡ first_failing (λ n. test) from (lemmas_in table.old lemmas.now)) }
     ensures extends { Extends table.old table.new }
     ensures kept { AreKept (S.declares sig.now table.new) table.new kept.new }
-    ensures spends { Spends table.new kept.old.memo kept.new.memo result }
+    ensures spends { SpendsResults table.new kept.old.memo kept.new.memo result }
 {
     match lemmas {
         [] => Ok(None),
@@ -129,7 +129,7 @@ pub fn first_failing<S: Signature>(
         (λ found. found ≡ first_failing (λ n. test) 0 (lemmas_in table.old lemmas.now)) }
     ensures extends { Extends table.old table.new }
     ensures kept { AreKept (S.declares sig.now table.new) table.new kept.new }
-    ensures spends { Spends table.new kept.old.memo kept.new.memo result }
+    ensures spends { SpendsResults table.new kept.old.memo kept.new.memo result }
 {
     failing_from(table, kept, sig, asked, lemmas, 0)
 }

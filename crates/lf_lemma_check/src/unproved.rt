@@ -8,7 +8,7 @@ ghost use Rattle.lf_lemmas.specs.Lemmas.{formulas_of, with_lemmas};
 ghost use Rattle.lf_lemmas.specs.Tables.{lemmas_in, LemmasKnown, HoldsLemmas};
 ghost use Rattle.lf_lemma_check.specs.First.{first_failing, cites_before, proves_before};
 ghost use Rattle.lf_lemma_check.specs.Inside.Joined.{checks_backwards};
-ghost use Rattle.hereditary_subst.specs.Limits.{Spends};
+ghost use Rattle.hereditary_subst.specs.Limits.{SpendsResults};
 
 use crate::citations::first_late;
 use crate::searches::{Asked, first_failing};
@@ -37,7 +37,7 @@ fn failing_or_late<S: Signature>(
         IfOk result (λ found. found ≡ first_failing test 0 (lemmas_in table.old lemmas.now)) }
     ensures extends { Extends table.old table.new }
     ensures kept { AreKept (S.declares sig.now table.new) table.new kept.new }
-    ensures spends { Spends table.new kept.old.memo kept.new.memo result }
+    ensures spends { SpendsResults table.new kept.old.memo kept.new.memo result }
 {
     match late {
         None => first_failing(table, kept, sig, Asked::Proof, lemmas),
@@ -77,7 +77,7 @@ pub fn first_unproved<S: Signature>(
     ensures extends { Extends table.old table.new }
     ensures kept { let all : List (Tree × Tree) = lemmas_in table.new lemmas.now in
         AreKept (with_lemmas (S.declares sig.now table.new) (formulas_of all)) table.new kept.new }
-    ensures spends { Spends table.new kept.old.memo kept.new.memo result }
+    ensures spends { SpendsResults table.new kept.old.memo kept.new.memo result }
 {
     let late = first_late(alloc, table, lemmas)?;
     let extended = WithLemmas { sig, lemmas };

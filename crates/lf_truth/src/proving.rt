@@ -10,7 +10,7 @@ ghost use Rattle.formula_tree.specs.Formulas.{Form};
 ghost use Rattle.formula_tree.specs.Truth.{IsValid};
 ghost use Rattle.lf_truth.specs.Validity.{EncodesClosed, AreGivenTypes, listed};
 ghost use Rattle.lf_signature.specs.Laws.Within.{declared-longest};
-ghost use Rattle.hereditary_subst.specs.Limits.{Spends};
+ghost use Rattle.hereditary_subst.specs.Limits.{SpendsResults};
 
 use crate::theorems::truth_laws;
 use lf_check::{Exhausted, Kept, check_term_with, synth_with};
@@ -83,7 +83,7 @@ pub fn prove_true_with<S: Truthful>(
         (λ b. IsTrue b → (F : Form) → EncodesClosed F (tree_at table.old goal) → IsValid F) }
     ensures extends { Extends table.old table.new }
     ensures kept { AreKept (S.Signature.declares sig.now table.new) table.new kept.new }
-    ensures spends { Spends table.new kept.old.memo kept.new.memo result }
+    ensures spends { SpendsResults table.new kept.old.memo kept.new.memo result }
 {
     truth_laws();
     let proofs = pf(table, goal)?;
@@ -127,7 +127,7 @@ pub fn proved_with<S: Signature>(
         IfOk result (IsResult table.new (λ g. proves (pf g))) }
     ensures extends { Extends table.old table.new }
     ensures kept { AreKept (S.declares sig.now table.new) table.new kept.new }
-    ensures spends { Spends table.new kept.old.memo kept.new.memo result }
+    ensures spends { SpendsResults table.new kept.old.memo kept.new.memo result }
 {
     match synth_with(table, kept, sig, &[], proof)? {
         None => Ok(None),
@@ -160,7 +160,7 @@ pub fn proved_formula_with<S: Truthful>(
         (λ g. (F : Form) → EncodesClosed F (tree_at table.new g) → IsValid F)) }
     ensures extends { Extends table.old table.new }
     ensures kept { AreKept (S.Signature.declares sig.now table.new) table.new kept.new }
-    ensures spends { Spends table.new kept.old.memo kept.new.memo result }
+    ensures spends { SpendsResults table.new kept.old.memo kept.new.memo result }
 {
     truth_laws();
     proved_with(table, kept, sig, proof)

@@ -60,7 +60,7 @@ no-more : (v : ℕ) → v < 2 ^ 64 → (v + extended (pos 0)) % 2 ^ 64 ≡ v
 no-more v h = omega (arith, h)
 
 -- the register that an action writes
-abbrev WritesRegister : Action → Type 0
+abbrev pub WritesRegister : Action → Type 0
 WritesRegister (actions.Compute to word) = to < 32
 WritesRegister (actions.Load to base disp) = to < 32
 WritesRegister (actions.LoadAround to base disp) = to < 32
@@ -287,7 +287,7 @@ memory-writes Ldq ra rb disp w h = h.0.0.0
 memory-writes LdqU ra rb disp w h = h.0.0.0
 memory-writes Stq ra rb disp w h = tt
 
-format-writes : (f : Format) (w : ℕ) → EncodesFormat w f → WritesRegister (format_action f)
+pub format-writes : (f : Format) (w : ℕ) → EncodesFormat w f → WritesRegister (format_action f)
 format-writes (F.Memory op ra rb disp) w h = memory-writes op ra rb disp w h
 format-writes (F.Operate op ra rhs rc) w h = h.2.0
 format-writes (F.Branch cond ra disp) w h = tt

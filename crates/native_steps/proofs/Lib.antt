@@ -4,3 +4,4 @@ pub mod Operators
 pub mod Operands
 pub mod Instructions
 pub mod Assigning
+pub mod Encodable

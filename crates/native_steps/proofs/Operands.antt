@@ -55,11 +55,11 @@ differ : (p : Places) (k r : ℕ) (a b : Place) → (a ≡ b → ⊥) → place_
 differ p k r a b apart e f same = apart (sym e ∙ ap (place_at p) same ∙ f)
 
 module _ (p : Places) (call : Call) (places : ArePlaces p) where
-  slot-is : (rights : Rights) (r : ℕ) → IsLent call rights → r < 31 → (call.area + extended (slot r)) % 2 ^ 64 ≡ slot_address call.area r
+  pub slot-is : (rights : Rights) (r : ℕ) → IsLent call rights → r < 31 → (call.area + extended (slot r)) % 2 ^ 64 ≡ slot_address call.area r
   slot-is rights r lent h = let top : call.area + 8 * 31 ≤ 2 ^ 64 = lent.span.to in omega (arith, top, h)
 
   -- the quadword of a register is one of the area's
-  slot-allowed : (spans : List (ℕ × ℕ)) (r : ℕ) → r < 31 → allowed (area_span call ∷ spans) (slot_address call.area r) ≡ true
+  pub slot-allowed : (spans : List (ℕ × ℕ)) (r : ℕ) → r < 31 → allowed (area_span call ∷ spans) (slot_address call.area r) ≡ true
   slot-allowed spans r h = ap (λ t. t || allowed spans (slot_address call.area r)) (in-span call.area 31 (slot_address call.area r) r h refl)
 
   -- an access of the Alpha code's is allowed beside the area

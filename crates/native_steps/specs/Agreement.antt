@@ -1,5 +1,5 @@
 -- When a state of the processor agrees with one of the Alpha machine, and that the sequence of an instruction keeps it so.
-use Rattle.std.specs.Prelude.{◌≡◌, ℕ, ◌+◌, true, false, List, ◌∷◌, slice_index, Some}
+use Rattle.std.specs.Prelude.{◌≡◌, ℕ, ◌+◌, true, false, List, ◌∷◌, slice_index, Some, All}
 use Rattle.word_ops.specs.Memory.{read}
 use Rattle.word_ops.specs.Rights.{Rights, IsSpan, in_span, allowed}
 use Rattle.word_ops.specs.Registers.{read_reg}
@@ -16,7 +16,7 @@ use Rattle.x86_machine.specs.Machine.{X86, IsX86}
 use Rattle.native_steps.specs.declared.places.Place.TheVariants.{Register, Slot}
 use Rattle.native_steps.specs.Places.{Places, IsSomewhere, ArePlaces, place_at, slot_address, is_callee_saved, FUEL, AREA}
 use Rattle.native_steps.specs.Sequences.{ReadsPlaced, insn_code, test_code, branch_cond}
-use Rattle.native_steps.specs.Straight.{x86_straight, total_length}
+use Rattle.native_steps.specs.Straight.{x86_straight, total_length, IsStraight}
 
 -- What a call lends and what it wants back: the area's address, the fuel that is left, and the registers when it began.
 pub record Call : Type 0 where
@@ -76,3 +76,7 @@ SimulatesInsn = (p : Places) (call : Call) (insn : Insn) (s t : State) (x : X86)
 abbrev pub Tests : Type 0
 Tests = (p : Places) (call : Call) (cond : Cond) (r : ℕ) (s : State) (x : X86) → ArePlaces p → IsSomewhere p r → IsState s
     → IsLent call s.rights → Agrees p call s x → DecidesBranch p call cond r x s
+
+-- The sequence of an instruction has bytes, and no jumps.
+abbrev pub StraightInsns : Type 0
+StraightInsns = (p : Places) (insn : Insn) → ArePlaces p → IsInsn insn → All IsStraight (insn_code p insn)

@@ -18,7 +18,7 @@ refused-undone (refusal.TooLong length) e = omega (arith, e)
 refused-undone r e = omega (arith, e)
 
 -- nor has a reason
-reason-undone : (why : Reason) → reason_status why ≡ DONE → ⊥
+pub reason-undone : (why : Reason) → reason_status why ≡ DONE → ⊥
 reason-undone (reason.Refused r) e = refused-undone r e
 reason-undone why e = omega (arith, e)
 

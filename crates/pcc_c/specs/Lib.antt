@@ -7,4 +7,5 @@ pub mod Proving
 pub mod Compiling
 pub mod Upgrading
 pub mod Buffers
+pub mod Hosting
 pub mod Inside

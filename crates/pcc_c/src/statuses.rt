@@ -42,6 +42,15 @@ pub const TOO_BIG: u32 = 40;
 /// There is no such version, or the step bound isn't one that the version may have.
 pub const BAD_VERSION: u32 = 41;
 
+/// The handle has a host already.
+pub const HOST_OPEN: u32 = 42;
+
+/// The handle has no host.
+pub const NO_HOST: u32 = 43;
+
+/// The packet has more bytes than a packet may have.
+pub const LONG_PACKET: u32 = 44;
+
 /// Returns the number that the refusal's line has after `refused`.
 pub fn refusal_number(refusal: Refusal) -> u32
     ensures { result ≡ refusal_number refusal }

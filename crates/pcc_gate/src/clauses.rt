@@ -21,7 +21,7 @@ ghost use Rattle.pcc_gate.specs.First.{too_high, has_form, formless};
 ghost use Rattle.pcc_gate.specs.Inside.Stages.{IsContainerAnswer, IsCodeRead, AreLemmasFormed};
 ghost use Rattle.pcc_gate.specs.Inside.Stages.{later_trees, measured_trees};
 ghost use Rattle.pcc_gate.specs.Inside.Stages.{IsCutMade, IsLengthAnswer};
-ghost use Rattle.hereditary_subst.specs.Limits.{Spends};
+ghost use Rattle.hereditary_subst.specs.Limits.{SpendsResults};
 
 use crate::fault::GateFault;
 use crate::for_policy::is_for;
@@ -201,7 +201,7 @@ fn has_form(
     ensures exact { IfOk result (λ b. b ≡ has_form signature bound (tree_at table.old id)) }
     ensures extends { Extends table.old table.new }
     ensures kept { AreKept (declared signature) table.new kept.new }
-    ensures spends { Spends table.new kept.old.memo kept.new.memo result }
+    ensures spends { SpendsResults table.new kept.old.memo kept.new.memo result }
 {
     let _ = bound; // only the clauses speak of it
     typing_laws();
@@ -234,7 +234,7 @@ pub fn first_formless(
         IfOk result (λ found. found ≡ formless signature bound from rest) }
     ensures extends { Extends table.old table.new }
     ensures kept { AreKept (declared signature) table.new kept.new }
-    ensures spends { Spends table.new kept.old.memo kept.new.memo result }
+    ensures spends { SpendsResults table.new kept.old.memo kept.new.memo result }
 {
     if from == invs.len() {
         return Ok(None);

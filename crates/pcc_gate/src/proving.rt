@@ -18,7 +18,7 @@ ghost use Rattle.vcgen.specs.Encoded.{AreForms};
 ghost use Rattle.vcgen.specs.declared.condition.TheConstants.{MAX_UNFOLDED};
 ghost use Rattle.pcc_gate.specs.Inside.Acceptance.{IsProofFound, IsProofAnswer};
 ghost use Rattle.pcc_gate.specs.Inside.Acceptance.{IsLemmaWeight, AreLemmasProved};
-ghost use Rattle.hereditary_subst.specs.Limits.{Spends};
+ghost use Rattle.hereditary_subst.specs.Limits.{SpendsResults};
 
 use crate::fault::GateFault;
 use crate::limits::MAX_WEIGHT;
@@ -138,7 +138,7 @@ fn formula_proved(
     ensures extends { Extends table.old table.new }
     ensures kept { let forms = formulas_of (lemmas_in table.new lemmas.now) in
         AreKept (with_lemmas (declared signature) forms) table.new kept.new }
-    ensures spends { Spends table.new kept.old.memo kept.new.memo result }
+    ensures spends { SpendsResults table.new kept.old.memo kept.new.memo result }
 {
     let extended = WithLemmas {
         sig: &signature,

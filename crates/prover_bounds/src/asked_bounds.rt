@@ -5,7 +5,7 @@
 ghost use Rattle.std.specs.Prelude.{◌≡◌, ◌≤◌, ◌+◌, IfOk, OnOk, length};
 ghost use Rattle.term_table.specs.Table.{IsKnown, tree_at, Extends};
 ghost use Rattle.hereditary_subst.specs.Kept.{IsMemo};
-ghost use Rattle.hereditary_subst.specs.Limits.{left_of, results_of, Spends, charge};
+ghost use Rattle.hereditary_subst.specs.Limits.{left_of, results_of, SpendsResults, charge};
 ghost use Rattle.formula_tree.specs.Formulas.{Exp};
 ghost use Rattle.lf_terms.specs.Encoding.{exp_encoding};
 ghost use Rattle.prover_ids.specs.Hypotheses.{AreKnownHyps, AreHyps};
@@ -48,7 +48,7 @@ fn lower_word(
         → tree_at table.now e ≡ exp_encoding x
         → IfOk result (λ w. w ≡ (lower_bound counted Γ x).value) }
     ensures memo { IsMemo table.now memo.new }
-    ensures spends { Spends table.now memo.old memo.new result }
+    ensures spends { SpendsResults table.now memo.old memo.new result }
     ensures kept { IfOk result (λ _. AreBounds table.now hyps.now kept.new) }
 {
     if counted {
@@ -86,7 +86,7 @@ pub fn bound_words(
     ensures left { let counted = charge memo.old (results_of (length hyps.now)) in
         OnOk result (left_of memo.new + counted ≤ left_of memo.old) }
     ensures kept { IfOk result (λ _. AreBounds table.now hyps.now kept.new) }
-    ensures spends { Spends table.now memo.old memo.new result }
+    ensures spends { SpendsResults table.now memo.old memo.new result }
 {
     memo.spend_steps(hyps.len() as u64)?;
     let upper = choice_of(table, memo, kept, hyps, Side::Upper, a)?;
@@ -120,7 +120,7 @@ pub fn upper_bound(
         → IfOk result (IsWordBound table.new (upper_bound Γ x)) }
     ensures extends { Extends table.old table.new }
     ensures memo { IsMemo table.new memo.new }
-    ensures spends { Spends table.new memo.old memo.new result }
+    ensures spends { SpendsResults table.new memo.old memo.new result }
     ensures kept { IfOk result (λ _. AreBounds table.new hyps.now kept.new) }
 {
     best_bound(table, memo, kept, hyps, Side::Upper, e)
@@ -154,7 +154,7 @@ pub fn lower_bound(
     ensures left { let counted = charge memo.old (results_of (length hyps.now)) in
         OnOk result (left_of memo.new + counted ≤ left_of memo.old) }
     ensures kept { IfOk result (λ _. AreBounds table.new hyps.now kept.new) }
-    ensures spends { Spends table.new memo.old memo.new result }
+    ensures spends { SpendsResults table.new memo.old memo.new result }
 {
     memo.spend_steps(hyps.len() as u64)?;
     if counted {

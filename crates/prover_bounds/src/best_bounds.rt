@@ -6,7 +6,7 @@
 ghost use Rattle.std.specs.Prelude.{◌≡◌, ◌≤◌, ◌+◌, true, IfOk, OnOk, length};
 ghost use Rattle.term_table.specs.Table.{IsKnown, tree_at, Extends};
 ghost use Rattle.hereditary_subst.specs.Kept.{IsMemo};
-ghost use Rattle.hereditary_subst.specs.Limits.{left_of, results_of, Spends, charge};
+ghost use Rattle.hereditary_subst.specs.Limits.{left_of, results_of, SpendsResults, charge};
 ghost use Rattle.formula_tree.specs.Formulas.{Exp};
 ghost use Rattle.lf_terms.specs.Encoding.{exp_encoding};
 ghost use Rattle.prover_ids.specs.Hypotheses.{AreKnownHyps, AreHyps};
@@ -49,7 +49,7 @@ pub(crate) fn choice_of(
         → tree_at table.now e ≡ exp_encoding x
         → IfOk result (IsChoice side Γ x (bound_from side Γ x)) }
     ensures memo { IsMemo table.now memo.new }
-    ensures spends { Spends table.now memo.old memo.new result }
+    ensures spends { SpendsResults table.now memo.old memo.new result }
     ensures kept { IfOk result (λ _. AreBounds table.now hyps.now kept.new) }
 {
     if let Some(choice) = kept.choice(table, hyps, side, e) {
@@ -81,7 +81,7 @@ fn choice_anew(
     ensures left { let counted = charge memo.old (results_of (length hyps.now)) in
         OnOk result (left_of memo.new + counted ≤ left_of memo.old) }
     ensures kept { IfOk result (λ _. AreBounds table.now hyps.now kept.new) }
-    ensures spends { Spends table.now memo.old memo.new result }
+    ensures spends { SpendsResults table.now memo.old memo.new result }
 {
     memo.spend_steps(hyps.len() as u64)?;
     match side {
@@ -107,7 +107,7 @@ fn upper_choice(
         → tree_at table.now e ≡ exp_encoding x
         → IfOk result (IsChoice Upper Γ x (upper_bound Γ x)) }
     ensures memo { IsMemo table.now memo.new }
-    ensures spends { Spends table.now memo.old memo.new result }
+    ensures spends { SpendsResults table.now memo.old memo.new result }
     ensures kept { IfOk result (λ _. AreBounds table.now hyps.now kept.new) }
 {
     match parts_of(table, e) {
@@ -137,7 +137,7 @@ fn lower_choice(
         → tree_at table.now e ≡ exp_encoding x
         → IfOk result (IsChoice Lower Γ x (lower_bound true Γ x)) }
     ensures memo { IsMemo table.now memo.new }
-    ensures spends { Spends table.now memo.old memo.new result }
+    ensures spends { SpendsResults table.now memo.old memo.new result }
     ensures kept { IfOk result (λ _. AreBounds table.now hyps.now kept.new) }
 {
     match difference_of(table, e) {
@@ -171,7 +171,7 @@ pub(crate) fn best_bound(
         → IfOk result (IsWordBound table.new (bound_from side Γ x)) }
     ensures extends { Extends table.old table.new }
     ensures memo { IsMemo table.new memo.new }
-    ensures spends { Spends table.new memo.old memo.new result }
+    ensures spends { SpendsResults table.new memo.old memo.new result }
     ensures kept { IfOk result (λ _. AreBounds table.new hyps.now kept.new) }
 {
     let choice = choice_of(table, memo, kept, hyps, side, e)?;
@@ -207,7 +207,7 @@ pub(crate) fn made(
         → IfOk result (IsWordBound table.new (chosen side Γ x by)) }
     ensures extends { Extends table.old table.new }
     ensures memo { IsMemo table.new memo.new }
-    ensures spends { Spends table.new memo.old memo.new result }
+    ensures spends { SpendsResults table.new memo.old memo.new result }
     ensures kept { IfOk result (λ _. AreBounds table.new hyps.now kept.new) }
 {
     match by {
@@ -239,7 +239,7 @@ fn made_by_parts(
         → IfOk result (IsWordBound table.new (by_parts Γ x how)) }
     ensures extends { Extends table.old table.new }
     ensures memo { IsMemo table.new memo.new }
-    ensures spends { Spends table.new memo.old memo.new result }
+    ensures spends { SpendsResults table.new memo.old memo.new result }
     ensures kept { IfOk result (λ _. AreBounds table.new hyps.now kept.new) }
 {
     let Some(p) = parts_of(table, e) else {

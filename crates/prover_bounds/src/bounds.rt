@@ -5,7 +5,7 @@
 ghost use Rattle.std.specs.Prelude.{◌≡◌, ◌≤◌, IfOk, OnOk};
 ghost use Rattle.term_table.specs.Table.{TableView, IsKnown, tree_at, Extends};
 ghost use Rattle.hereditary_subst.specs.Kept.{IsMemo};
-ghost use Rattle.hereditary_subst.specs.Limits.{Spends};
+ghost use Rattle.hereditary_subst.specs.Limits.{SpendsResults};
 ghost use Rattle.lf_signature.specs.Nodes.{IsIdOf};
 ghost use Rattle.word_ops.specs.declared.Rel.TheVariants.{Ule};
 ghost use Rattle.formula_tree.specs.Formulas.{Exp, EVar, ELit, EOp, FRel};
@@ -49,7 +49,7 @@ pub(crate) fn placed(table: &mut Table, memo: &mut Memo, side: Side, e: Id) -> R
         → IfOk result (IsIdOf table.new (form_encoding (placed side x))) }
     ensures extends { Extends table.old table.new }
     ensures memo { IsMemo table.new memo.new }
-    ensures spends { Spends table.new memo.old memo.new result }
+    ensures spends { SpendsResults table.new memo.old memo.new result }
 {
     let under = raised(table, memo, e)?;
     let place = table.intern(Node::Var(0))?;
@@ -108,7 +108,7 @@ pub(crate) fn folded(
         → IfOk result (IsWordBound table.new (folded_at side x op v w (tree_at table.old proof))) }
     ensures extends { Extends table.old table.new }
     ensures memo { IsMemo table.new memo.new }
-    ensures spends { Spends table.new memo.old memo.new result }
+    ensures spends { SpendsResults table.new memo.old memo.new result }
 {
     let value = apply(op, v, w);
     let form = placed(table, memo, side, e)?;
@@ -133,7 +133,7 @@ pub(crate) fn fit_proof(
     ensures id { IfOk result (IsIdOf table.new (fit_proof v op a b)) }
     ensures extends { Extends table.old table.new }
     ensures memo { IsMemo table.new memo.new }
-    ensures spends { Spends table.new memo.old memo.new result }
+    ensures spends { SpendsResults table.new memo.old memo.new result }
 {
     let value = apply(op, a, b);
     let from = word(table, value)?;

@@ -4,7 +4,7 @@
 ghost use Rattle.std.specs.Prelude.{◌≡◌, ◌+◌, IfOk, IfSome, List, OnOk};
 ghost use Rattle.term_table.specs.Table.{TableView, IsKnown, tree_at};
 ghost use Rattle.hereditary_subst.specs.Kept.{IsMemo};
-ghost use Rattle.hereditary_subst.specs.Limits.{left_of, Spends, charge};
+ghost use Rattle.hereditary_subst.specs.Limits.{left_of, SpendsResults, charge};
 ghost use Rattle.formula_tree.specs.Formulas.{Exp};
 ghost use Rattle.lf_terms.specs.Encoding.{exp_encoding};
 ghost use Rattle.prover_ids.specs.declared.hypotheses.Hypothesis.{Hypothesis as H};
@@ -122,7 +122,7 @@ impl KeptBounds {
         ensures memo { IsMemo table.now memo.new }
         ensures left { OnOk result (left_of memo.old ≡ left_of memo.new + charge memo.old 1) }
         ensures kept { IfOk result (λ _. AreBounds table.now hyps.now self.new) }
-        ensures spends { Spends table.now memo.old memo.new result }
+        ensures spends { SpendsResults table.now memo.old memo.new result }
     {
         let exp = number(e);
         let subject = Subject { side, exp };

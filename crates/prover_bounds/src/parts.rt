@@ -5,7 +5,7 @@
 ghost use Rattle.std.specs.Prelude.{◌≡◌, ◌<◌, ◌≤◌, IfOk, IfSome, OnOk};
 ghost use Rattle.term_table.specs.Table.{IsKnown, tree_at, Extends};
 ghost use Rattle.hereditary_subst.specs.Kept.{IsMemo};
-ghost use Rattle.hereditary_subst.specs.Limits.{Spends, NeverResults};
+ghost use Rattle.hereditary_subst.specs.Limits.{SpendsResults, NeverResults};
 ghost use Rattle.formula_tree.specs.Formulas.{Exp, ELit};
 ghost use Rattle.lf_terms.specs.Encoding.{exp_encoding};
 ghost use Rattle.prover_bounds.specs.BoundIds.{IsWordBound, bound_by_ids};
@@ -255,7 +255,7 @@ pub(crate) fn by_left(
         → IfOk result (IsWordBound table.new (by_left x y z (bound_by_ids table.old v))) }
     ensures extends { Extends table.old table.new }
     ensures memo { IsMemo table.new memo.new }
-    ensures spends { Spends table.new memo.old memo.new result }
+    ensures spends { SpendsResults table.new memo.old memo.new result }
 {
     let form = placed(table, memo, Side::Lower, a)?;
     let turned = oper(table, Op::Band, b, a)?;
@@ -290,7 +290,7 @@ pub(crate) fn by_right_shift(
         (IsWordBound table.new (by_right_shift x y count (bound_by_ids table.old v))) }
     ensures extends { Extends table.old table.new }
     ensures memo { IsMemo table.new memo.new }
-    ensures spends { Spends table.new memo.old memo.new result }
+    ensures spends { SpendsResults table.new memo.old memo.new result }
 {
     let value = word(table, v.value)?;
     let by = word(table, count)?;
@@ -318,7 +318,7 @@ pub(crate) fn by_left_shift(
         (IsWordBound table.new (by_left_shift x y count (bound_by_ids table.old v))) }
     ensures extends { Extends table.old table.new }
     ensures memo { IsMemo table.new memo.new }
-    ensures spends { Spends table.new memo.old memo.new result }
+    ensures spends { SpendsResults table.new memo.old memo.new result }
 {
     let fits = fit_proof(table, memo, v.value, Op::Srl, u64::MAX, count)?;
     let value = word(table, v.value)?;
@@ -351,7 +351,7 @@ pub(crate) fn by_sum(
         (by_sum x y z (bound_by_ids table.old v) (bound_by_ids table.old w))) }
     ensures extends { Extends table.old table.new }
     ensures memo { IsMemo table.new memo.new }
-    ensures spends { Spends table.new memo.old memo.new result }
+    ensures spends { SpendsResults table.new memo.old memo.new result }
 {
     let fits = fit_proof(table, memo, v.value, Op::Add, v.value, w.value)?;
     let left = word(table, v.value)?;
@@ -389,7 +389,7 @@ pub(crate) fn by_difference(
         (IsWordBound table.new (by_difference x y w (bound_by_ids table.old v))) }
     ensures extends { Extends table.old table.new }
     ensures memo { IsMemo table.new memo.new }
-    ensures spends { Spends table.new memo.old memo.new result }
+    ensures spends { SpendsResults table.new memo.old memo.new result }
 {
     let held = fact(table, Rel::Ule, w, v.value)?;
     let value = word(table, v.value)?;

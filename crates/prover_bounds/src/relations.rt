@@ -4,7 +4,7 @@ ghost use Rattle.std.specs.Prelude.{◌≡◌, ◌≤◌, IfOk, drop, OnOk};
 ghost use Rattle.term_table.specs.Tree.{Tree};
 ghost use Rattle.term_table.specs.Table.{IsKnown, tree_at, Extends};
 ghost use Rattle.hereditary_subst.specs.Kept.{IsMemo};
-ghost use Rattle.hereditary_subst.specs.Limits.{Spends, NeverResults};
+ghost use Rattle.hereditary_subst.specs.Limits.{SpendsResults, NeverResults};
 ghost use Rattle.word_ops.specs.declared.Rel.TheVariants.{Ult};
 ghost use Rattle.formula_tree.specs.Formulas.{Exp, ELit, Form, FRel};
 ghost use Rattle.lf_terms.specs.Encoding.{exp_encoding, form_encoding};
@@ -159,7 +159,7 @@ fn by_less(
         → IfOk result (IsWordBound table.new (by_less x w (tree_at table.old proof))) }
     ensures extends { Extends table.old table.new }
     ensures memo { IsMemo table.new memo.new }
-    ensures spends { Spends table.new memo.old memo.new result }
+    ensures spends { SpendsResults table.new memo.old memo.new result }
 {
     let before = rule_term(table, LT_PRED, &[e, word, proof])?;
     folded(table, memo, Side::Upper, e, Op::Sub, w, 1, before)
@@ -205,7 +205,7 @@ fn by_equal(
         → IfOk result (IsWordBound table.new (by_equal side x w (tree_at table.old proof))) }
     ensures extends { Extends table.old table.new }
     ensures memo { IsMemo table.new memo.new }
-    ensures spends { Spends table.new memo.old memo.new result }
+    ensures spends { SpendsResults table.new memo.old memo.new result }
 {
     let form = placed(table, memo, side, e)?;
     let itself = rule_term(table, ULE_REFL, &[e])?;
@@ -238,7 +238,7 @@ fn by_relation(
         (by_relation side related.kind x related.value (tree_at table.old proof))) }
     ensures extends { Extends table.old table.new }
     ensures memo { IsMemo table.new memo.new }
-    ensures spends { Spends table.new memo.old memo.new result }
+    ensures spends { SpendsResults table.new memo.old memo.new result }
 {
     let value = related.value;
     match related.kind {
@@ -270,7 +270,7 @@ pub(crate) fn by_hypothesis(
         → IfOk result (IsWordBound table.new (by_first side x (drop at Γ))) }
     ensures extends { Extends table.old table.new }
     ensures memo { IsMemo table.new memo.new }
-    ensures spends { Spends table.new memo.old memo.new result }
+    ensures spends { SpendsResults table.new memo.old memo.new result }
 {
     if hyps.len() <= at {
         return limit(table, side, e);

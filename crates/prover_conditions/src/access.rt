@@ -14,7 +14,7 @@ ghost use Rattle.prover_class.specs.Access.{right_address, moved, without_access
 ghost use Rattle.prover_goals.specs.Provers.{IsProofBy};
 ghost use Rattle.prover_goals.specs.Search.{IsSearch, IsContext, IsAfter};
 ghost use Rattle.prover_conditions.specs.Inside.AccessIds.{access_of, IsHypProof, IsBodyProof};
-ghost use Rattle.hereditary_subst.specs.Limits.{Spends};
+ghost use Rattle.hereditary_subst.specs.Limits.{SpendsResults};
 
 use crate::access_grants::by_grant;
 use crate::access_moves::{is_asked, moved_access};
@@ -46,7 +46,7 @@ fn by_quantified(
         c.outside asked.now body proof) }
     ensures extends { Extends table.old table.new }
     ensures after { OnOk result (IsAfter table.new search.new context.old context.new) }
-    ensures spends { Spends table.new search.old.memo search.new.memo result }
+    ensures spends { SpendsResults table.new search.old.memo search.new.memo result }
 {
     match form_node(table, body) {
         FormNode::Imp(premise, conclusion) => {
@@ -93,7 +93,7 @@ fn by_right(
         moved context.now.outside (access_of asked.now.access) y a (tree_at table.old proof)))) }
     ensures extends { Extends table.old table.new }
     ensures search { OnOk result (IsSearch table.new search.new) }
-    ensures spends { Spends table.new search.old.memo search.new.memo result }
+    ensures spends { SpendsResults table.new search.old.memo search.new.memo result }
 {
     let (access, a) = (asked.access, asked.address);
     if !is_asked(access, given) {
@@ -123,7 +123,7 @@ fn by_hyp(
         c.outside asked.now form proof) }
     ensures extends { Extends table.old table.new }
     ensures after { OnOk result (IsAfter table.new search.new context.old context.new) }
-    ensures spends { Spends table.new search.old.memo search.new.memo result }
+    ensures spends { SpendsResults table.new search.old.memo search.new.memo result }
 {
     match form_node(table, form) {
         FormNode::Right(given, z) => {
@@ -181,7 +181,7 @@ fn by_hyps(
         (by_hyps (without_access asked.now.counted) c.outside Γ (access_of asked.now.access) a Γ)) }
     ensures extends { Extends table.old table.new }
     ensures after { OnOk result (IsAfter table.new search.new context.old context.new) }
-    ensures spends { Spends table.new search.old.memo search.new.memo result }
+    ensures spends { SpendsResults table.new search.old.memo search.new.memo result }
 {
     let count = context.hyps.as_slice().len();
     search.spend_steps((count as u64).saturating_mul(STEPS_A_TRY))?;
@@ -214,7 +214,7 @@ pub fn proof_by_access(
         (IsProofBy (by_access (without_access counted)) table.old table.new c.hyps c.outside goal) }
     ensures extends { Extends table.old table.new }
     ensures after { OnOk result (IsAfter table.new search.new context.old context.new) }
-    ensures spends { Spends table.new search.old.memo search.new.memo result }
+    ensures spends { SpendsResults table.new search.old.memo search.new.memo result }
 {
     match form_node(table, goal) {
         FormNode::Right(access, address) => {

@@ -12,7 +12,7 @@ ghost use Rattle.prover_class.specs.Access.{down, Opened, granted, granted_by};
 ghost use Rattle.prover_class.specs.Access as class;
 ghost use Rattle.prover_goals.specs.Search.{IsSearch, IsContext, IsAfter};
 ghost use Rattle.prover_conditions.specs.Inside.AccessIds.{access_of, way_back, IsKnownGrant, IsKnownFound, IsFoundAt, IsGranted};
-ghost use Rattle.hereditary_subst.specs.Limits.{Spends};
+ghost use Rattle.hereditary_subst.specs.Limits.{SpendsResults};
 
 use crate::access_moves::{access_move, form_with};
 use crate::access_walks::{Asked, Found, Grant, Side, walk};
@@ -83,7 +83,7 @@ fn granted(
         (tree_at table.old proof) x)) }
     ensures extends { Extends table.old table.new }
     ensures search { OnOk result (IsSearch table.new search.new) }
-    ensures spends { Spends table.new search.old.memo search.new.memo result }
+    ensures spends { SpendsResults table.new search.old.memo search.new.memo result }
 {
     let opening = &found.opening;
     let top = rule_term(table, IMP_E, &[premise, conclusion, proof, opening.proof])?;
@@ -141,7 +141,7 @@ fn granted_instance(
         (tree_at table.old grant.now.proof) x)) }
     ensures extends { Extends table.old table.new }
     ensures search { OnOk result (IsSearch table.new search.new) }
-    ensures spends { Spends table.new search.old.memo search.new.memo result }
+    ensures spends { SpendsResults table.new search.old.memo search.new.memo result }
 {
     let put = found.opening.put;
     let premise = form_with(table, search, grant.premise, put)?;
@@ -177,7 +177,7 @@ fn granted_by(
         (tree_at table.old grant.now.proof) x)) }
     ensures extends { Extends table.old table.new }
     ensures search { OnOk result (IsSearch table.new search.new) }
-    ensures spends { Spends table.new search.old.memo search.new.memo result }
+    ensures spends { SpendsResults table.new search.old.memo search.new.memo result }
 {
     if grant.quantified {
         let made = granted_instance(table, search, outside, asked, grant, found)?;
@@ -208,7 +208,7 @@ pub(crate) fn by_grant(
         c.outside asked.now grant.now) }
     ensures extends { Extends table.old table.new }
     ensures after { OnOk result (IsAfter table.new search.new context.old context.new) }
-    ensures spends { Spends table.new search.old.memo search.new.memo result }
+    ensures spends { SpendsResults table.new search.old.memo search.new.memo result }
 {
     let alloc = table.allocator();
     let mut misses = BTreeSet::new(alloc);

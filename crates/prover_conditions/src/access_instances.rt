@@ -13,7 +13,7 @@ ghost use Rattle.prover_class.specs.Access.{instance_of};
 ghost use Rattle.prover_goals.specs.Search.{IsSearch};
 ghost use Rattle.prover_conditions.specs.Inside.Instances.{variable_index, rest_at, scaled_rest, index_at};
 ghost use Rattle.prover_conditions.specs.Inside.AccessIds.{IfIndexed};
-ghost use Rattle.hereditary_subst.specs.Limits.{Spends};
+ghost use Rattle.hereditary_subst.specs.Limits.{SpendsResults};
 
 use crate::access_moves::exp_with;
 use hereditary_subst::Exhausted;
@@ -101,7 +101,7 @@ fn has_variable(table: &Table, search: &mut Search, e: Id) -> Result<bool, Exhau
     requires search { IsSearch table.now search.old }
     ensures exact { IfOk result (OccursInExp table.now e) }
     ensures search { OnOk result (IsSearch table.now search.new) }
-    ensures spends { Spends table.now search.old.memo search.new.memo result }
+    ensures spends { SpendsResults table.now search.old.memo search.new.memo result }
 {
     occurs(table, &mut search.memo, &mut search.occurrences, e)
 }
@@ -124,7 +124,7 @@ fn rest_at(
         → IfOk result (IsExpOption table.new (rest_at outside x b)) }
     ensures extends { Extends table.old table.new }
     ensures search { OnOk result (IsSearch table.new search.new) }
-    ensures spends { Spends table.new search.old.memo search.new.memo result }
+    ensures spends { SpendsResults table.new search.old.memo search.new.memo result }
 {
     let zero = table.intern(Node::Lit(0))?;
     let start = exp_with(table, search, base, zero)?;
@@ -176,7 +176,7 @@ fn index_at(
         → IfOk result (IsExpOption table.new (index_at outside x b scaled)) }
     ensures extends { Extends table.old table.new }
     ensures search { OnOk result (IsSearch table.new search.new) }
-    ensures spends { Spends table.new search.old.memo search.new.memo result }
+    ensures spends { SpendsResults table.new search.old.memo search.new.memo result }
 {
     if has_variable(table, search, base)? {
         return Ok(None);
@@ -205,7 +205,7 @@ pub(crate) fn instance_of(
         → IfOk result (IsExpOption table.new (instance_of outside x y)) }
     ensures extends { Extends table.old table.new }
     ensures search { OnOk result (IsSearch table.new search.new) }
-    ensures spends { Spends table.new search.old.memo search.new.memo result }
+    ensures spends { SpendsResults table.new search.old.memo search.new.memo result }
 {
     match split_address(table, z) {
         None => Ok(None),

@@ -12,7 +12,7 @@ ghost use Rattle.prover_ids.specs.Puts.{IsExpPut, IsFormPut};
 ghost use Rattle.prover_class.specs.Access.{access_form, right_address, moved, same_address, access_move};
 ghost use Rattle.prover_goals.specs.Search.{IsSearch};
 ghost use Rattle.prover_conditions.specs.Inside.AccessIds.{access_of};
-ghost use Rattle.hereditary_subst.specs.Limits.{Spends};
+ghost use Rattle.hereditary_subst.specs.Limits.{SpendsResults};
 
 use hereditary_subst::Exhausted;
 use prover_goals::{Search, normal, normal_exp};
@@ -46,7 +46,7 @@ pub(crate) fn exp_with(
     ensures put { IfOk result (IsExpPut table.old table.new exp 0 arg) }
     ensures extends { Extends table.old table.new }
     ensures search { OnOk result (IsSearch table.new search.new) }
-    ensures spends { Spends table.new search.old.memo search.new.memo result }
+    ensures spends { SpendsResults table.new search.old.memo search.new.memo result }
 {
     put_word_exp(table, &mut search.memo, &mut search.puts, exp, arg)
 }
@@ -65,7 +65,7 @@ pub(crate) fn form_with(
     ensures put { IfOk result (IsFormPut table.old table.new form 0 arg) }
     ensures extends { Extends table.old table.new }
     ensures search { OnOk result (IsSearch table.new search.new) }
-    ensures spends { Spends table.new search.old.memo search.new.memo result }
+    ensures spends { SpendsResults table.new search.old.memo search.new.memo result }
 {
     put_word(table, &mut search.memo, &mut search.puts, form, arg)
 }
@@ -87,7 +87,7 @@ pub(crate) fn same_address(
         → IfOk result (λ b. b ≡ same_address outside x y) }
     ensures extends { Extends table.old table.new }
     ensures search { OnOk result (IsSearch table.new search.new) }
-    ensures spends { Spends table.new search.old.memo search.new.memo result }
+    ensures spends { SpendsResults table.new search.old.memo search.new.memo result }
 {
     let first = normal_exp(table, search, outside, z)?;
     let second = normal_exp(table, search, outside, a)?;
@@ -126,7 +126,7 @@ pub(crate) fn access_move(
         (access_move outside (access_of access) x y (tree_at table.old proof))) }
     ensures extends { Extends table.old table.new }
     ensures search { OnOk result (IsSearch table.new search.new) }
-    ensures spends { Spends table.new search.old.memo search.new.memo result }
+    ensures spends { SpendsResults table.new search.old.memo search.new.memo result }
 {
     let form = place_form(table, access)?;
     let p = normal(table, search, outside, z)?;
@@ -157,7 +157,7 @@ pub(crate) fn moved_access(
         (moved outside (access_of access) y x (tree_at table.old proof))) }
     ensures extends { Extends table.old table.new }
     ensures search { OnOk result (IsSearch table.new search.new) }
-    ensures spends { Spends table.new search.old.memo search.new.memo result }
+    ensures spends { SpendsResults table.new search.old.memo search.new.memo result }
 {
     if same_address(table, search, outside, z, a)? {
         let moved = access_move(table, search, outside, access, z, a, proof)?;

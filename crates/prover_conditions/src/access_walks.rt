@@ -15,7 +15,7 @@ ghost use Rattle.prover_class.specs.Access.{without_access, Opened, opening_of, 
 ghost use Rattle.prover_class.specs.Access as class;
 ghost use Rattle.prover_goals.specs.Search.{IsSearch, IsContext, IsAfter};
 ghost use Rattle.prover_conditions.specs.Inside.AccessIds.{access_of, side_of, IsKnownGrant, IsKnownOpening, IsKnownFound, IfOpened, IfFound, IsOpeningAt, IsFoundHere, IsWalk, IsBothWalk, AreMisses};
-ghost use Rattle.hereditary_subst.specs.Limits.{Spends};
+ghost use Rattle.hereditary_subst.specs.Limits.{SpendsResults};
 
 use crate::access_instances::instance_of;
 use crate::access_moves::{exp_with, form_with, is_asked, same_address};
@@ -110,7 +110,7 @@ fn opened(
         (option_map (opening_of x y) (without_access counted c.outside Γ P))) }
     ensures extends { Extends table.old table.new }
     ensures after { OnOk result (IsAfter table.new search.new context.old context.new) }
-    ensures spends { Spends table.new search.old.memo search.new.memo result }
+    ensures spends { SpendsResults table.new search.old.memo search.new.memo result }
 {
     match proof_without_access(table, search, context, counted, premise)? {
         None => Ok(None),
@@ -146,7 +146,7 @@ fn opened_by(
         (opened_by (without_access counted) c.outside Γ w P x x)) }
     ensures extends { Extends table.old table.new }
     ensures after { OnOk result (IsAfter table.new search.new context.old context.new) }
-    ensures spends { Spends table.new search.old.memo search.new.memo result }
+    ensures spends { SpendsResults table.new search.old.memo search.new.memo result }
 {
     let outside = context.outside;
     if !same_address(table, search, outside, address, a)? {
@@ -183,7 +183,7 @@ fn opened_with(
         (opened_with (without_access counted) c.outside Γ w P x y)) }
     ensures extends { Extends table.old table.new }
     ensures after { OnOk result (IsAfter table.new search.new context.old context.new) }
-    ensures spends { Spends table.new search.old.memo search.new.memo result }
+    ensures spends { SpendsResults table.new search.old.memo search.new.memo result }
 {
     let outside = context.outside;
     let there = exp_with(table, search, address, put)?;
@@ -219,7 +219,7 @@ fn opened_instance(
         (opened_at (without_access counted) true c.outside Γ w P x)) }
     ensures extends { Extends table.old table.new }
     ensures after { OnOk result (IsAfter table.new search.new context.old context.new) }
-    ensures spends { Spends table.new search.old.memo search.new.memo result }
+    ensures spends { SpendsResults table.new search.old.memo search.new.memo result }
 {
     let outside = context.outside;
     match instance_of(table, search, outside, a, address)? {
@@ -251,7 +251,7 @@ fn opening_at(
         c.outside asked.now grant.now address) }
     ensures extends { Extends table.old table.new }
     ensures after { OnOk result (IsAfter table.new search.new context.old context.new) }
-    ensures spends { Spends table.new search.old.memo search.new.memo result }
+    ensures spends { SpendsResults table.new search.old.memo search.new.memo result }
 {
     let (counted, a) = (asked.counted, asked.address);
     let premise = grant.premise;
@@ -286,7 +286,7 @@ fn found_at(
         c.outside asked.now grant.now address) }
     ensures extends { Extends table.old table.new }
     ensures after { OnOk result (IsAfter table.new search.new context.old context.new) }
-    ensures spends { Spends table.new search.old.memo search.new.memo result }
+    ensures spends { SpendsResults table.new search.old.memo search.new.memo result }
 {
     match opening_at(table, search, context, asked, grant, address)? {
         None => Ok(None),
@@ -339,7 +339,7 @@ pub(crate) fn walk(
     ensures after { OnOk result (IsAfter table.new search.new context.old context.new) }
     ensures misses { let c = context.new in OnOk result (AreMisses table.new c.hyps c.outside
         asked.now grant.now misses.new) }
-    ensures spends { Spends table.new search.old.memo search.new.memo result }
+    ensures spends { SpendsResults table.new search.old.memo search.new.memo result }
 {
     let part = part_of(form);
     if misses.contains(&part) {
@@ -381,7 +381,7 @@ fn walk_parts(
     ensures after { OnOk result (IsAfter table.new search.new context.old context.new) }
     ensures misses { let c = context.new in OnOk result (AreMisses table.new c.hyps c.outside
         asked.now grant.now misses.new) }
-    ensures spends { Spends table.new search.old.memo search.new.memo result }
+    ensures spends { SpendsResults table.new search.old.memo search.new.memo result }
 {
     match form_node(table, form) {
         FormNode::And(a, b) => {
@@ -434,7 +434,7 @@ fn walk_both(
     ensures after { OnOk result (IsAfter table.new search.new context.old context.new) }
     ensures misses { let c = context.new in OnOk result (AreMisses table.new c.hyps c.outside
         asked.now grant.now misses.new) }
-    ensures spends { Spends table.new search.old.memo search.new.memo result }
+    ensures spends { SpendsResults table.new search.old.memo search.new.memo result }
 {
     match walk(table, search, context, asked, grant, misses, a)? {
         Some(found) => {

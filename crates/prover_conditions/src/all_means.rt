@@ -7,7 +7,7 @@ ghost use Rattle.term_table.specs.Table.{IsKnown, Extends};
 ghost use Rattle.prover_class.specs.Access.{by_all_means};
 ghost use Rattle.prover_goals.specs.Provers.{IsProofBy, whole_proof, prover_of};
 ghost use Rattle.prover_goals.specs.Search.{IsSearch, IsContext, IsAfter};
-ghost use Rattle.hereditary_subst.specs.Limits.{Spends};
+ghost use Rattle.hereditary_subst.specs.Limits.{SpendsResults};
 
 use crate::access::proof_by_access;
 use hereditary_subst::Exhausted;
@@ -60,7 +60,7 @@ fn by_all_means(
         IfOk result (IsProofBy p table.old table.new c.hyps c.outside goal) }
     ensures extends { Extends table.old table.new }
     ensures after { OnOk result (IsAfter table.new search.new context.old context.new) }
-    ensures spends { Spends table.new search.old.memo search.new.memo result }
+    ensures spends { SpendsResults table.new search.old.memo search.new.memo result }
 {
     match proof_by_words(table, search, context, counted, goal)? {
         Some(proof) => Ok(Some(proof)),
@@ -90,7 +90,7 @@ pub fn proof_by_all_means(
         IfOk result (IsProofBy p table.old table.new c.hyps c.outside goal) }
     ensures extends { Extends table.old table.new }
     ensures after { OnOk result (IsAfter table.new search.new context.old context.new) }
-    ensures spends { Spends table.new search.old.memo search.new.memo result }
+    ensures spends { SpendsResults table.new search.old.memo search.new.memo result }
 {
     goal_proof(table, &ByAllMeans { counted }, search, context, goal)
 }

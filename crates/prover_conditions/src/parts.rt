@@ -10,7 +10,7 @@ ghost use Rattle.prover_class.specs.Parts.{conjoined, outside_part, part_proof};
 ghost use Rattle.prover_goals.specs.Search.{IsSearch};
 ghost use Rattle.prover_conditions.specs.Conditions.{IsKnownAnswer, IsPartsAnswer};
 ghost use Rattle.prover_conditions.specs.Inside.Parts.{AreFirstAndRest};
-ghost use Rattle.hereditary_subst.specs.Limits.{Spends};
+ghost use Rattle.hereditary_subst.specs.Limits.{SpendsResults};
 
 use crate::all_means::proof_by_all_means;
 use hereditary_subst::Exhausted;
@@ -75,7 +75,7 @@ fn part_proof(
         → IfOk result (Stands table.new (part_proof counted A)) }
     ensures extends { Extends table.old table.new }
     ensures search { OnOk result (IsSearch table.new search.new) }
-    ensures spends { Spends table.new search.old.memo search.new.memo result }
+    ensures spends { SpendsResults table.new search.old.memo search.new.memo result }
 {
     let none = Hypotheses::new(table.allocator());
     let mut context = Context::new(table, outside_part(counted), none)?;
@@ -103,7 +103,7 @@ pub(crate) fn proof_of_parts(
         → IfOk result (IsPartsAnswer table.new counted number l) }
     ensures extends { Extends table.old table.new }
     ensures search { OnOk result (IsSearch table.new search.new) }
-    ensures spends { Spends table.new search.old.memo search.new.memo result }
+    ensures spends { SpendsResults table.new search.old.memo search.new.memo result }
 {
     let Some(parts) = first_and_rest(table, condition) else {
         let proof = rule_term(table, TT_I, &[])?;

@@ -5,7 +5,7 @@
 ghost use Rattle.std.specs.Prelude.{◌≡◌, ◌≤◌, ◌<◌, ℕ, min, IfOk, IfSome, OnOk};
 ghost use Rattle.term_table.specs.Table.{IsKnown, tree_at, Extends};
 ghost use Rattle.hereditary_subst.specs.Kept.{IsMemo};
-ghost use Rattle.hereditary_subst.specs.Limits.{Spends};
+ghost use Rattle.hereditary_subst.specs.Limits.{SpendsResults};
 ghost use Rattle.formula_tree.specs.Formulas.{Exp, EOp};
 ghost use Rattle.lf_terms.specs.Encoding.{exp_encoding};
 ghost use Rattle.prover_class.specs.NormalForms.{Rewritten, leaves, rewrite_at, redex, normalized, normal_form};
@@ -207,7 +207,7 @@ pub fn plain_form(
     ensures extends { Extends table.old table.new }
     ensures memo { IsMemo table.new memo.new }
     ensures kept { OnOk result (ArePlainForms table.new kept.new) }
-    ensures spends { Spends table.new memo.old memo.new result }
+    ensures spends { SpendsResults table.new memo.old memo.new result }
 {
     let place = ExpAt {
         id: number(e),

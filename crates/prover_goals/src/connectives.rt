@@ -10,7 +10,7 @@ ghost use Rattle.prover_class.specs.Access.{without_access};
 ghost use Rattle.prover_goals.specs.Provers.{IsProofBy, whole_proof, prover_of};
 ghost use Rattle.prover_goals.specs.Search.{IsSearch, IsContext, IsAfter};
 ghost use Rattle.prover_goals.specs.Inside.Connectives.{shape_proof, IsJoinProof, IsOverProof};
-ghost use Rattle.hereditary_subst.specs.Limits.{Spends};
+ghost use Rattle.hereditary_subst.specs.Limits.{SpendsResults};
 
 use crate::contexts::{under_binder, under_hypothesis};
 use crate::introductions::{both, generalized, implied, joined, truth};
@@ -45,7 +45,7 @@ pub fn goal_proof<L: Leaf>(
         IfOk result (IsProofBy p table.old table.new c.hyps c.outside goal) }
     ensures extends { Extends table.old table.new }
     ensures after { OnOk result (IsAfter table.new search.new context.old context.new) }
-    ensures spends { Spends table.new search.old.memo search.new.memo result }
+    ensures spends { SpendsResults table.new search.old.memo search.new.memo result }
 {
     if let Some(found) = context.found(table, leaf.means(), goal) {
         return Ok(found);
@@ -73,7 +73,7 @@ fn unkept_proof<L: Leaf>(
         IfOk result (IsProofBy p table.old table.new c.hyps c.outside goal) }
     ensures extends { Extends table.old table.new }
     ensures after { OnOk result (IsAfter table.new search.new context.old context.new) }
-    ensures spends { Spends table.new search.old.memo search.new.memo result }
+    ensures spends { SpendsResults table.new search.old.memo search.new.memo result }
 {
     if let Some(proof) = find_hyp(table, &context.hyps, goal) {
         return Ok(Some(proof));
@@ -103,7 +103,7 @@ fn proof_by_shape<L: Leaf>(
         IfOk result (IsProofBy p table.old table.new c.hyps c.outside goal) }
     ensures extends { Extends table.old table.new }
     ensures after { OnOk result (IsAfter table.new search.new context.old context.new) }
-    ensures spends { Spends table.new search.old.memo search.new.memo result }
+    ensures spends { SpendsResults table.new search.old.memo search.new.memo result }
 {
     match form_node(table, goal) {
         FormNode::True => truth(table),
@@ -140,7 +140,7 @@ fn proof_of_both<L: Leaf>(
         (IsJoinProof p table.old table.new c.hyps c.outside FAnd a b) }
     ensures extends { Extends table.old table.new }
     ensures after { OnOk result (IsAfter table.new search.new context.old context.new) }
-    ensures spends { Spends table.new search.old.memo search.new.memo result }
+    ensures spends { SpendsResults table.new search.old.memo search.new.memo result }
 {
     match goal_proof(table, leaf, search, context, a)? {
         None => Ok(None),
@@ -173,7 +173,7 @@ fn proof_of_either<L: Leaf>(
         (IsJoinProof p table.old table.new c.hyps c.outside FOr a b) }
     ensures extends { Extends table.old table.new }
     ensures after { OnOk result (IsAfter table.new search.new context.old context.new) }
-    ensures spends { Spends table.new search.old.memo search.new.memo result }
+    ensures spends { SpendsResults table.new search.old.memo search.new.memo result }
 {
     let left = goal_proof(table, leaf, search, context, a)?;
     if let Some(proof) = left {
@@ -205,7 +205,7 @@ fn proof_of_implication<L: Leaf>(
         (IsJoinProof p table.old table.new c.hyps c.outside FImp a b) }
     ensures extends { Extends table.old table.new }
     ensures search { OnOk result (IsSearch table.new search.new) }
-    ensures spends { Spends table.new search.old.memo search.new.memo result }
+    ensures spends { SpendsResults table.new search.old.memo search.new.memo result }
 {
     let mut under = under_hypothesis(table, search, context, a)?;
     let goal = raised(table, &mut search.memo, b)?;
@@ -234,7 +234,7 @@ fn proof_for_all<L: Leaf>(
         (IsOverProof p table.old table.new c.hyps c.outside rule b) }
     ensures extends { Extends table.old table.new }
     ensures search { OnOk result (IsSearch table.new search.new) }
-    ensures spends { Spends table.new search.old.memo search.new.memo result }
+    ensures spends { SpendsResults table.new search.old.memo search.new.memo result }
 {
     let mut under = under_binder(table, search, context)?;
     let proof = goal_proof(table, leaf, search, &mut under, b)?;
@@ -260,7 +260,7 @@ pub fn proof_without_access(
         IfOk result (IsProofBy p table.old table.new c.hyps c.outside goal) }
     ensures extends { Extends table.old table.new }
     ensures after { OnOk result (IsAfter table.new search.new context.old context.new) }
-    ensures spends { Spends table.new search.old.memo search.new.memo result }
+    ensures spends { SpendsResults table.new search.old.memo search.new.memo result }
 {
     goal_proof(table, &WordsAlone { counted }, search, context, goal)
 }

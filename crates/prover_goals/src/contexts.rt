@@ -4,7 +4,7 @@ ghost use Rattle.std.specs.Prelude.{◌≡◌, IfOk, OnOk};
 ghost use Rattle.term_table.specs.Table.{IsKnown, Extends};
 ghost use Rattle.prover_goals.specs.Search.{IsSearch, IsContext};
 ghost use Rattle.prover_goals.specs.Contexts.{IsUnderBinder, IsUnderHypothesis};
-ghost use Rattle.hereditary_subst.specs.Limits.{Spends};
+ghost use Rattle.hereditary_subst.specs.Limits.{SpendsResults};
 
 use crate::search::{Context, Search};
 use hereditary_subst::Exhausted;
@@ -28,7 +28,7 @@ pub fn under_binder(
         IfOk result (IsUnderBinder table.old table.new c.hyps c.outside) }
     ensures extends { Extends table.old table.new }
     ensures search { OnOk result (IsSearch table.new search.new) }
-    ensures spends { Spends table.new search.old.memo search.new.memo result }
+    ensures spends { SpendsResults table.new search.old.memo search.new.memo result }
 {
     if context.outside == u32::MAX {
         return Err(Exhausted::Memory);
@@ -55,7 +55,7 @@ pub fn under_hypothesis(
         IfOk result (IsUnderHypothesis table.old table.new c.hyps c.outside a) }
     ensures extends { Extends table.old table.new }
     ensures search { OnOk result (IsSearch table.new search.new) }
-    ensures spends { Spends table.new search.old.memo search.new.memo result }
+    ensures spends { SpendsResults table.new search.old.memo search.new.memo result }
 {
     if context.outside == u32::MAX {
         return Err(Exhausted::Memory);

@@ -19,7 +19,7 @@ pub trait Leaf {
     ghost use Rattle.prover_goals.specs.Provers.{IsProofBy, prover_of};
     ghost use Rattle.prover_goals.specs.Search.{IsSearch, IsContext, IsAfter};
     ghost use Rattle.prover_goals.specs.declared.answers.Means.{Means};
-    ghost use Rattle.hereditary_subst.specs.Limits.{Spends};
+    ghost use Rattle.hereditary_subst.specs.Limits.{SpendsResults};
 
     // By which means.
     ghost by: { Self → Means };
@@ -47,7 +47,7 @@ pub trait Leaf {
             IfOk result (IsProofBy p table.old table.new c.hyps c.outside goal) }
         ensures extends { Extends table.old table.new }
         ensures after { OnOk result (IsAfter table.new search.new context.old context.new) }
-        ensures spends { Spends table.new search.old.memo search.new.memo result };
+        ensures spends { SpendsResults table.new search.old.memo search.new.memo result };
 }
 
 /// Alignment, normal forms and bounds; `counted` says whether steps are counted.

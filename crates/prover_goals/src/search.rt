@@ -5,7 +5,7 @@ ghost use Rattle.term_table.specs.Table.{TableView, IsKnown, Extends};
 ghost use Rattle.prover_ids.specs.Hypotheses.{AreKnownHyps};
 ghost use Rattle.prover_goals.specs.Answers.{IsFoundProof};
 ghost use Rattle.hereditary_subst.specs.Limits.{is_limited, left_of, charge, results_of};
-ghost use Rattle.hereditary_subst.specs.Limits.{Counts, Spends, NeverResults};
+ghost use Rattle.hereditary_subst.specs.Limits.{Counts, SpendsResults, NeverResults};
 ghost use Rattle.prover_goals.specs.Search.{IsSearch, IsContext, IsAfter, uncounted};
 
 use crate::answers::{Answers, Means, question_of};
@@ -76,7 +76,7 @@ impl Search {
         ensures left { let counted = min (3 * uncounted table.now self.old) (2 ^ 60) in
             OnOk result
             (left_of self.new.memo + charge self.old.memo counted ≤ left_of self.old.memo) }
-        ensures spends { Spends table.now self.old.memo self.new.memo result }
+        ensures spends { SpendsResults table.now self.old.memo self.new.memo result }
         ensures counted { uncounted table.now self.new ≡ 0 }
     {
         let count = table.count();
@@ -154,7 +154,7 @@ fn keep_row(
         IsFoundProof table.now c.hyps c.outside means goal proof }
     ensures same { IfOk result (λ o. o ≡ proof) }
     ensures after { OnOk result (IsAfter table.now search.new context.old context.new) }
-    ensures spends { Spends table.now search.old.memo search.new.memo result }
+    ensures spends { SpendsResults table.now search.old.memo search.new.memo result }
 {
     let question = question_of(means, context.outside, goal);
     let hyps = context.hyps.as_slice();
@@ -189,7 +189,7 @@ pub(crate) fn keep_answer(
         IsFoundProof table.now c.hyps c.outside means goal proof }
     ensures same { IfOk result (λ o. o ≡ proof) }
     ensures after { OnOk result (IsAfter table.now search.new context.old context.new) }
-    ensures spends { Spends table.now search.old.memo search.new.memo result }
+    ensures spends { SpendsResults table.now search.old.memo search.new.memo result }
 {
     search.spend_terms(table)?;
     keep_row(table, search, context, means, goal, proof)

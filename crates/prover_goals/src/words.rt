@@ -18,7 +18,7 @@ ghost use Rattle.prover_sums.specs.NormalForms.{IsKnownRewritten, IsRewritten};
 ghost use Rattle.prover_goals.specs.Provers.{IsProofBy};
 ghost use Rattle.prover_goals.specs.Search.{IsSearch, IsContext, IsAfter};
 ghost use Rattle.prover_goals.specs.Inside.Words.{at_most_tree, less_tree, IsRelationProof, IsBoundsProof, IsAlignedPart};
-ghost use Rattle.hereditary_subst.specs.Limits.{Spends, NeverResults};
+ghost use Rattle.hereditary_subst.specs.Limits.{SpendsResults, NeverResults};
 
 use crate::search::{Context, Search};
 use hereditary_subst::Exhausted;
@@ -132,7 +132,7 @@ fn upper(
         → IfOk result (IsWordBound table.new (upper_bound Γ x)) }
     ensures extends { Extends table.old table.new }
     ensures after { OnOk result (IsAfter table.new search.new context.old context.new) }
-    ensures spends { Spends table.new search.old.memo search.new.memo result }
+    ensures spends { SpendsResults table.new search.old.memo search.new.memo result }
 {
     let hyps = context.hyps.as_slice();
     upper_bound(table, &mut search.memo, &mut context.bounds, hyps, e)
@@ -156,7 +156,7 @@ fn lower(
         → IfOk result (IsWordBound table.new (lower_bound counted Γ x)) }
     ensures extends { Extends table.old table.new }
     ensures after { OnOk result (IsAfter table.new search.new context.old context.new) }
-    ensures spends { Spends table.new search.old.memo search.new.memo result }
+    ensures spends { SpendsResults table.new search.old.memo search.new.memo result }
 {
     let hyps = context.hyps.as_slice();
     lower_bound(
@@ -198,7 +198,7 @@ fn bounds_of(
         × IsWordBound table.new (lower_bound counted Γ y) v.lower) }
     ensures extends { Extends table.old table.new }
     ensures after { OnOk result (IsAfter table.new search.new context.old context.new) }
-    ensures spends { Spends table.new search.old.memo search.new.memo result }
+    ensures spends { SpendsResults table.new search.old.memo search.new.memo result }
 {
     let upper = upper(table, search, context, a)?;
     let lower = lower(table, search, context, counted, b)?;
@@ -224,7 +224,7 @@ fn words_of(
         → IfOk result (λ w. (w.upper ≡ (upper_bound Γ x).value)
         × (w.lower ≡ (lower_bound counted Γ y).value)) }
     ensures after { OnOk result (IsAfter table.now search.new context.old context.new) }
-    ensures spends { Spends table.now search.old.memo search.new.memo result }
+    ensures spends { SpendsResults table.now search.old.memo search.new.memo result }
 {
     let hyps = context.hyps.as_slice();
     bound_words(
@@ -257,7 +257,7 @@ fn at_most_by_bounds(
         IfOk result (IsBoundsProof counted ule_by table.old table.new h a b) }
     ensures extends { Extends table.old table.new }
     ensures after { OnOk result (IsAfter table.new search.new context.old context.new) }
-    ensures spends { Spends table.new search.old.memo search.new.memo result }
+    ensures spends { SpendsResults table.new search.old.memo search.new.memo result }
 {
     let words = words_of(table, search, context, counted, a, b)?;
     if words.lower < words.upper {
@@ -286,7 +286,7 @@ fn at_most(
         IfOk result (IsRelationProof (by_bounds counted) table.old table.new h Ule a b) }
     ensures extends { Extends table.old table.new }
     ensures after { OnOk result (IsAfter table.new search.new context.old context.new) }
-    ensures spends { Spends table.new search.old.memo search.new.memo result }
+    ensures spends { SpendsResults table.new search.old.memo search.new.memo result }
 {
     let form = relation(table, Rel::Ult, a, b)?;
     match find_hyp(table, &context.hyps, form) {
@@ -320,7 +320,7 @@ fn less(
         IfOk result (IsRelationProof (by_bounds counted) table.old table.new h Ult a b) }
     ensures extends { Extends table.old table.new }
     ensures after { OnOk result (IsAfter table.new search.new context.old context.new) }
-    ensures spends { Spends table.new search.old.memo search.new.memo result }
+    ensures spends { SpendsResults table.new search.old.memo search.new.memo result }
 {
     let words = words_of(table, search, context, counted, a, b)?;
     if words.lower <= words.upper {
@@ -350,7 +350,7 @@ fn by_bounds(
         IfOk result (IsRelationProof (by_bounds counted) table.old table.new h rel a b) }
     ensures extends { Extends table.old table.new }
     ensures after { OnOk result (IsAfter table.new search.new context.old context.new) }
-    ensures spends { Spends table.new search.old.memo search.new.memo result }
+    ensures spends { SpendsResults table.new search.old.memo search.new.memo result }
 {
     match rel {
         Rel::Ule => at_most(table, search, context, counted, a, b),
@@ -379,7 +379,7 @@ pub fn normal(
         → IfOk result (λ q. IsRewritten table.new q (normal_form outside x)) }
     ensures extends { Extends table.old table.new }
     ensures search { OnOk result (IsSearch table.new search.new) }
-    ensures spends { Spends table.new search.old.memo search.new.memo result }
+    ensures spends { SpendsResults table.new search.old.memo search.new.memo result }
 {
     search.spend_terms(table)?;
     normal_form(table, &mut search.memo, &mut search.forms, outside, e)
@@ -403,7 +403,7 @@ pub fn normal_exp(
         → IfOk result (λ f. tree_at table.new f ≡ exp_encoding (normal_form outside x).now) }
     ensures extends { Extends table.old table.new }
     ensures search { OnOk result (IsSearch table.new search.new) }
-    ensures spends { Spends table.new search.old.memo search.new.memo result }
+    ensures spends { SpendsResults table.new search.old.memo search.new.memo result }
 {
     search.spend_terms(table)?;
     plain_form(table, &mut search.memo, &mut search.plain, outside, e)
@@ -429,7 +429,7 @@ fn proof_by_normal(
         → IfOk result (Stands table.new (by_normal outside Γ (FRel rel x y))) }
     ensures extends { Extends table.old table.new }
     ensures search { OnOk result (IsSearch table.new search.new) }
-    ensures spends { Spends table.new search.old.memo search.new.memo result }
+    ensures spends { SpendsResults table.new search.old.memo search.new.memo result }
 {
     let p = normal(table, search, outside, a)?;
     let q = normal(table, search, outside, b)?;
@@ -456,7 +456,7 @@ fn by_normal(
         → IfOk result (Stands table.new (by_normal outside Γ (FRel rel x y))) }
     ensures extends { Extends table.old table.new }
     ensures search { OnOk result (IsSearch table.new search.new) }
-    ensures spends { Spends table.new search.old.memo search.new.memo result }
+    ensures spends { SpendsResults table.new search.old.memo search.new.memo result }
 {
     let p = normal_exp(table, search, outside, a)?;
     let q = normal_exp(table, search, outside, b)?;
@@ -513,7 +513,7 @@ fn by_aligned(
         IfOk result (IsRelationProof by_aligned table.old table.new h rel a b) }
     ensures extends { Extends table.old table.new }
     ensures search { OnOk result (IsSearch table.new search.new) }
-    ensures spends { Spends table.new search.old.memo search.new.memo result }
+    ensures spends { SpendsResults table.new search.old.memo search.new.memo result }
 {
     match aligned_part(table, rel, a, b) {
         None => Ok(None),
@@ -545,7 +545,7 @@ fn relation_by_words(
         (IsRelationProof (by_words_alone counted c.outside) table.old table.new c.hyps rel a b) }
     ensures extends { Extends table.old table.new }
     ensures after { OnOk result (IsAfter table.new search.new context.old context.new) }
-    ensures spends { Spends table.new search.old.memo search.new.memo result }
+    ensures spends { SpendsResults table.new search.old.memo search.new.memo result }
 {
     match by_aligned(table, search, context, rel, a, b)? {
         Some(proof) => Ok(Some(proof)),
@@ -580,7 +580,7 @@ pub fn proof_by_words(
         IfOk result (IsProofBy p table.old table.new c.hyps c.outside goal) }
     ensures extends { Extends table.old table.new }
     ensures after { OnOk result (IsAfter table.new search.new context.old context.new) }
-    ensures spends { Spends table.new search.old.memo search.new.memo result }
+    ensures spends { SpendsResults table.new search.old.memo search.new.memo result }
 {
     match form_node(table, goal) {
         FormNode::Relation(rel, a, b) => relation_by_words(

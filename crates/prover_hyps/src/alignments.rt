@@ -5,7 +5,7 @@
 ghost use Rattle.std.specs.Prelude.{◌≡◌, IfOk, IfSome, OnOk};
 ghost use Rattle.term_table.specs.Table.{IsKnown, tree_at, Extends, Stands};
 ghost use Rattle.hereditary_subst.specs.Kept.{IsMemo};
-ghost use Rattle.hereditary_subst.specs.Limits.{Spends};
+ghost use Rattle.hereditary_subst.specs.Limits.{SpendsResults};
 ghost use Rattle.lf_signature.specs.Nodes.{IsIdOf};
 ghost use Rattle.word_ops.specs.declared.Rel.TheVariants.{Eq};
 ghost use Rattle.word_ops.specs.declared.Op.TheVariants.{Band, Sll};
@@ -85,7 +85,7 @@ fn equal_place(table: &mut Table, memo: &mut Memo, e: Id) -> Result<Id, Exhauste
         → IfOk result (IsIdOf table.new (form_encoding (FRel Eq (up x) (EVar 0)))) }
     ensures extends { Extends table.old table.new }
     ensures memo { IsMemo table.new memo.new }
-    ensures spends { Spends table.new memo.old memo.new result }
+    ensures spends { SpendsResults table.new memo.old memo.new result }
 {
     let under = raised(table, memo, e)?;
     let place = table.intern(Node::Var(0))?;
@@ -117,7 +117,7 @@ fn masked_first(
         → IfOk result (IsIdOf table.new (masked_first x y s i e)) }
     ensures extends { Extends table.old table.new }
     ensures memo { IsMemo table.new memo.new }
-    ensures spends { Spends table.new memo.old memo.new result }
+    ensures spends { SpendsResults table.new memo.old memo.new result }
 {
     let to = oper(table, Op::Band, a, inner)?;
     let equal = rule_term(table, AND_ASSOC, &[a, word, seven])?;
@@ -152,7 +152,7 @@ fn masked_second(
         (IsIdOf table.new (masked_second x i e z w (tree_at table.old first))) }
     ensures extends { Extends table.old table.new }
     ensures memo { IsMemo table.new memo.new }
-    ensures spends { Spends table.new memo.old memo.new result }
+    ensures spends { SpendsResults table.new memo.old memo.new result }
 {
     let equal = calc(table, Op::Band, w, 7)?;
     let left = raised(table, memo, whole)?;
@@ -185,7 +185,7 @@ fn masked_third(
         → IfOk result (IsIdOf table.new (masked_third x e z (tree_at table.old second))) }
     ensures extends { Extends table.old table.new }
     ensures memo { IsMemo table.new memo.new }
-    ensures spends { Spends table.new memo.old memo.new result }
+    ensures spends { SpendsResults table.new memo.old memo.new result }
 {
     let from = oper(table, Op::Band, a, zero)?;
     let equal = rule_term(table, AND_ZERO, &[a])?;
@@ -205,7 +205,7 @@ fn masked(table: &mut Table, memo: &mut Memo, a: Id, word: Id, w: u64) -> Result
         → IfOk result (IsIdOf table.new (masked x w)) }
     ensures extends { Extends table.old table.new }
     ensures memo { IsMemo table.new memo.new }
-    ensures spends { Spends table.new memo.old memo.new result }
+    ensures spends { SpendsResults table.new memo.old memo.new result }
 {
     let seven = table.intern(Node::Lit(7))?;
     let zero = table.intern(Node::Lit(0))?;
@@ -271,7 +271,7 @@ fn alignment_of_mask(
         → IfOk result (Stands table.new (alignment_proof Γ (EOp Band x y))) }
     ensures extends { Extends table.old table.new }
     ensures memo { IsMemo table.new memo.new }
-    ensures spends { Spends table.new memo.old memo.new result }
+    ensures spends { SpendsResults table.new memo.old memo.new result }
 {
     match literal(table, b) {
         None => Ok(None),
@@ -309,7 +309,7 @@ pub fn alignment_proof(
     ensures extends { Extends table.old table.new }
     ensures memo { IsMemo table.new memo.new }
     ensures kept { OnOk result (AreAlignments table.new hyps.now kept.new) }
-    ensures spends { Spends table.new memo.old memo.new result }
+    ensures spends { SpendsResults table.new memo.old memo.new result }
 {
     if let Some(answer) = kept.get(table, hyps.as_slice(), &question_of(e)) {
         return Ok(answer);
@@ -345,7 +345,7 @@ fn unkept_alignment(
     ensures extends { Extends table.old table.new }
     ensures memo { IsMemo table.new memo.new }
     ensures kept { OnOk result (AreAlignments table.new hyps.now kept.new) }
-    ensures spends { Spends table.new memo.old memo.new result }
+    ensures spends { SpendsResults table.new memo.old memo.new result }
 {
     match exp_node(table, e) {
         ExpNode::Word(w) => {
@@ -398,7 +398,7 @@ fn part_alignment(
     ensures extends { Extends table.old table.new }
     ensures memo { IsMemo table.new memo.new }
     ensures kept { OnOk result (AreAlignments table.new hyps.now kept.new) }
-    ensures spends { Spends table.new memo.old memo.new result }
+    ensures spends { SpendsResults table.new memo.old memo.new result }
 {
     let form = aligned_form(table, e)?;
     match find_hyp(table, hyps, form) {

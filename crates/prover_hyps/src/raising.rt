@@ -4,7 +4,7 @@ ghost use Rattle.std.specs.Prelude.{◌≡◌, ◌∷◌, ◌++◌, ◌≤◌, �
 ghost use Rattle.term_table.specs.Tree.{shift};
 ghost use Rattle.term_table.specs.Table.{IsKnown, tree_at, Extends};
 ghost use Rattle.hereditary_subst.specs.Kept.{IsMemo};
-ghost use Rattle.hereditary_subst.specs.Limits.{left_of, Spends, charge};
+ghost use Rattle.hereditary_subst.specs.Limits.{left_of, SpendsResults, charge};
 ghost use Rattle.formula_tree.specs.Formulas.{Form, shift_form};
 ghost use Rattle.lf_terms.specs.Encoding.{form_encoding};
 ghost use Rattle.prover_ids.specs.Hypotheses.{AreKnownHyps, AreHyps};
@@ -36,7 +36,7 @@ fn push_raised(
     ensures extends { Extends table.old table.new }
     ensures memo { IsMemo table.new memo.new }
     ensures left { OnOk result (left_of memo.new + charge memo.old 1 ≤ left_of memo.old) }
-    ensures spends { Spends table.new memo.old memo.new result }
+    ensures spends { SpendsResults table.new memo.old memo.new result }
 {
     memo.spend()?;
     let form = raised(table, memo, form)?;
@@ -62,7 +62,7 @@ pub fn raised_hyps(
     ensures memo { IsMemo table.new memo.new }
     ensures left { let counted = charge memo.old (length hyps.now) in
         OnOk result (left_of memo.new + counted ≤ left_of memo.old) }
-    ensures spends { Spends table.new memo.old memo.new result }
+    ensures spends { SpendsResults table.new memo.old memo.new result }
 {
     let mut under = Hypotheses::new(table.allocator());
     let list = hyps.as_slice();

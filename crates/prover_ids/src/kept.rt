@@ -7,7 +7,7 @@
 ghost use Rattle.std.specs.Prelude.{◌≡◌, ◌+◌, IfSome, List, OnOk};
 ghost use Rattle.term_table.specs.Table.{TableView};
 ghost use Rattle.hereditary_subst.specs.Kept.{IsMemo};
-ghost use Rattle.hereditary_subst.specs.Limits.{left_of, Spends, charge};
+ghost use Rattle.hereditary_subst.specs.Limits.{left_of, SpendsResults, charge};
 ghost use Rattle.prover_ids.specs.declared.hypotheses.Hypothesis.{Hypothesis as H};
 ghost use Rattle.prover_ids.specs.Kept.{AreRight};
 
@@ -91,7 +91,7 @@ impl<Q: Question> Kept<Q> {
         ensures memo { IsMemo table.now memo.new }
         ensures left { OnOk result (left_of memo.old ≡ left_of memo.new + charge memo.old 1) }
         ensures kept { AreRight Q.cmp (Q.is_right hyps.now) table.now self.new }
-        ensures spends { Spends table.now memo.old memo.new result }
+        ensures spends { SpendsResults table.now memo.old memo.new result }
     {
         // Only the clauses speak of them.
         let _ = table;

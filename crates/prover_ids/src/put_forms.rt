@@ -3,7 +3,7 @@
 ghost use Rattle.std.specs.Prelude.{◌≡◌, ◌<◌, ◌+◌, ◌^◌, ◌≤◌, IfOk, OnOk};
 ghost use Rattle.term_table.specs.Table.{IsKnown, tree_at, Extends};
 ghost use Rattle.hereditary_subst.specs.Kept.{IsMemo};
-ghost use Rattle.hereditary_subst.specs.Limits.{Spends};
+ghost use Rattle.hereditary_subst.specs.Limits.{SpendsResults};
 ghost use Rattle.prover_ids.specs.Puts.{IsExpPut, IsFormPut};
 ghost use Rattle.prover_ids.specs.PutRows.{ArePuts, IsJoinPut, IsUnderPut};
 
@@ -36,7 +36,7 @@ pub(crate) fn put_form(
     ensures put { IfOk result (IsFormPut table.old table.new id x arg) }
     ensures extends { Extends table.old table.new }
     ensures memo { IsMemo table.new memo.new }
-    ensures spends { Spends table.new memo.old memo.new result }
+    ensures spends { SpendsResults table.new memo.old memo.new result }
     ensures kept { ArePuts table.new kept.new }
 {
     let question = Put::Form(number(id), x, number(arg));
@@ -67,7 +67,7 @@ fn put_form_parts(
     ensures put { IfOk result (IsFormPut table.old table.new id x arg) }
     ensures extends { Extends table.old table.new }
     ensures memo { IsMemo table.new memo.new }
-    ensures spends { Spends table.new memo.old memo.new result }
+    ensures spends { SpendsResults table.new memo.old memo.new result }
     ensures kept { ArePuts table.new kept.new }
 {
     match form_node(table, id) {
@@ -112,7 +112,7 @@ fn put_joined(
     ensures put { IfOk result (IsJoinPut table.old table.new connective a b x arg) }
     ensures extends { Extends table.old table.new }
     ensures memo { IsMemo table.new memo.new }
-    ensures spends { Spends table.new memo.old memo.new result }
+    ensures spends { SpendsResults table.new memo.old memo.new result }
     ensures kept { ArePuts table.new kept.new }
 {
     let left = put_form(table, memo, kept, a, x, arg)?;
@@ -140,7 +140,7 @@ fn put_under(
     ensures put { IfOk result (IsUnderPut table.old table.new quantifier body x arg) }
     ensures extends { Extends table.old table.new }
     ensures memo { IsMemo table.new memo.new }
-    ensures spends { Spends table.new memo.old memo.new result }
+    ensures spends { SpendsResults table.new memo.old memo.new result }
     ensures kept { ArePuts table.new kept.new }
 {
     let under = raised(table, memo, arg)?;
@@ -167,7 +167,7 @@ pub fn put_word(
     ensures put { IfOk result (IsFormPut table.old table.new form 0 arg) }
     ensures extends { Extends table.old table.new }
     ensures memo { IsMemo table.new memo.new }
-    ensures spends { Spends table.new memo.old memo.new result }
+    ensures spends { SpendsResults table.new memo.old memo.new result }
     ensures kept { ArePuts table.new kept.new }
 {
     table.laws();
@@ -192,7 +192,7 @@ pub fn put_word_exp(
     ensures put { IfOk result (IsExpPut table.old table.new exp 0 arg) }
     ensures extends { Extends table.old table.new }
     ensures memo { IsMemo table.new memo.new }
-    ensures spends { Spends table.new memo.old memo.new result }
+    ensures spends { SpendsResults table.new memo.old memo.new result }
     ensures kept { ArePuts table.new kept.new }
 {
     put_exp(table, memo, kept, exp, 0, arg)

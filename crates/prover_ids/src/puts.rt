@@ -7,7 +7,7 @@ ghost use Rattle.std.specs.Prelude.{◌≡◌, ◌≤◌, IfOk, OnOk};
 ghost use Rattle.term_table.specs.Tree.{Var, spot};
 ghost use Rattle.term_table.specs.Table.{IsKnown, tree_at, Extends};
 ghost use Rattle.hereditary_subst.specs.Kept.{IsMemo};
-ghost use Rattle.hereditary_subst.specs.Limits.{Spends};
+ghost use Rattle.hereditary_subst.specs.Limits.{SpendsResults};
 ghost use Rattle.lf_signature.specs.Nodes.{IsIdOf};
 ghost use Rattle.formula_tree.specs.Formulas.{Exp};
 ghost use Rattle.formula_tree.specs.Variables.{PExp, exp_at, mem_at};
@@ -108,7 +108,7 @@ pub(crate) fn put_exp(
     ensures put { IfOk result (IsExpPut table.old table.new id x arg) }
     ensures extends { Extends table.old table.new }
     ensures memo { IsMemo table.new memo.new }
-    ensures spends { Spends table.new memo.old memo.new result }
+    ensures spends { SpendsResults table.new memo.old memo.new result }
     ensures kept { ArePuts table.new kept.new }
 {
     let question = Put::Exp(number(id), x, number(arg));
@@ -138,7 +138,7 @@ fn put_exp_parts(
     ensures put { IfOk result (IsExpPut table.old table.new id x arg) }
     ensures extends { Extends table.old table.new }
     ensures memo { IsMemo table.new memo.new }
-    ensures spends { Spends table.new memo.old memo.new result }
+    ensures spends { SpendsResults table.new memo.old memo.new result }
     ensures kept { ArePuts table.new kept.new }
 {
     match exp_node(table, id) {
@@ -175,7 +175,7 @@ fn put_mem(
     ensures put { IfOk result (IsMemPut table.old table.new id x arg) }
     ensures extends { Extends table.old table.new }
     ensures memo { IsMemo table.new memo.new }
-    ensures spends { Spends table.new memo.old memo.new result }
+    ensures spends { SpendsResults table.new memo.old memo.new result }
     ensures kept { ArePuts table.new kept.new }
 {
     let question = Put::Mem(number(id), x, number(arg));
@@ -205,7 +205,7 @@ fn put_mem_parts(
     ensures put { IfOk result (IsMemPut table.old table.new id x arg) }
     ensures extends { Extends table.old table.new }
     ensures memo { IsMemo table.new memo.new }
-    ensures spends { Spends table.new memo.old memo.new result }
+    ensures spends { SpendsResults table.new memo.old memo.new result }
     ensures kept { ArePuts table.new kept.new }
 {
     match mem_node(table, id) {

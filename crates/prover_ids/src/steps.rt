@@ -5,7 +5,7 @@
 ghost use Rattle.std.specs.Prelude.{◌≡◌, ◌≤◌, IfOk, OnOk};
 ghost use Rattle.term_table.specs.Table.{IsKnown, tree_at, Extends};
 ghost use Rattle.hereditary_subst.specs.Kept.{IsMemo};
-ghost use Rattle.hereditary_subst.specs.Limits.{Spends};
+ghost use Rattle.hereditary_subst.specs.Limits.{SpendsResults};
 ghost use Rattle.lf_signature.specs.Nodes.{IsIdOf};
 ghost use Rattle.lf_signature.specs.Terms.{op_term, rel_term};
 ghost use Rattle.formula_tree.specs.Formulas.{Exp, Form};
@@ -129,7 +129,7 @@ pub fn swapped(table: &mut Table, memo: &mut Memo, a: Id, b: Id, equal: Id) -> R
         → IfOk result (IsIdOf table.new (swap x y (tree_at table.old equal))) }
     ensures extends { Extends table.old table.new }
     ensures memo { IsMemo table.new memo.new }
-    ensures spends { Spends table.new memo.old memo.new result }
+    ensures spends { SpendsResults table.new memo.old memo.new result }
 {
     let place = table.intern(Node::Var(0))?;
     let under = raised(table, memo, a)?;

@@ -5,7 +5,7 @@
 ghost use Rattle.std.specs.Prelude.{◌≡◌, IfOk, IfSome, OnOk, List};
 ghost use Rattle.term_table.specs.Table.{IsKnown, tree_at, Extends};
 ghost use Rattle.hereditary_subst.specs.Kept.{IsMemo};
-ghost use Rattle.hereditary_subst.specs.Limits.{Spends};
+ghost use Rattle.hereditary_subst.specs.Limits.{SpendsResults};
 ghost use Rattle.formula_tree.specs.Formulas.{Exp};
 ghost use Rattle.lf_terms.specs.Encoding.{exp_encoding};
 ghost use Rattle.lf_terms.specs.ProofTerms.{up};
@@ -127,7 +127,7 @@ fn next(
         → IfOk result (IsRound table.new x (redex outside r.now) r) }
     ensures extends { Extends table.old table.new }
     ensures memo { IsMemo table.new memo.new }
-    ensures spends { Spends table.new memo.old memo.new result }
+    ensures spends { SpendsResults table.new memo.old memo.new result }
 {
     let steps = redex(table, memo, outside, here.now)?;
     if !has_rewrites(&steps) {
@@ -156,7 +156,7 @@ fn normalized(
         → IfOk result (λ q. IsRewritten table.new q (normalized outside rounds x r)) }
     ensures extends { Extends table.old table.new }
     ensures memo { IsMemo table.new memo.new }
-    ensures spends { Spends table.new memo.old memo.new result }
+    ensures spends { SpendsResults table.new memo.old memo.new result }
 {
     let mut now = start.now;
     let mut proof = start.proof;
@@ -187,7 +187,7 @@ fn fresh_normal_form(
         → IfOk result (λ q. IsRewritten table.new q (normal_form outside x)) }
     ensures extends { Extends table.old table.new }
     ensures memo { IsMemo table.new memo.new }
-    ensures spends { Spends table.new memo.old memo.new result }
+    ensures spends { SpendsResults table.new memo.old memo.new result }
 {
     let proof = reflexive(table, e)?;
     if 64 < leaves_up_to(table, e, 65) {
@@ -226,7 +226,7 @@ pub fn normal_form(
     ensures extends { Extends table.old table.new }
     ensures memo { IsMemo table.new memo.new }
     ensures kept { OnOk result (AreNormalForms table.new kept.new) }
-    ensures spends { Spends table.new memo.old memo.new result }
+    ensures spends { SpendsResults table.new memo.old memo.new result }
 {
     let place = Place {
         id: number(e),

@@ -5,7 +5,7 @@
 ghost use Rattle.std.specs.Prelude.{◌≡◌, IfOk};
 ghost use Rattle.term_table.specs.Table.{IsKnown, tree_at, Extends, Stands};
 ghost use Rattle.hereditary_subst.specs.Kept.{IsMemo, IfKnown};
-ghost use Rattle.hereditary_subst.specs.Limits.{Spends};
+ghost use Rattle.hereditary_subst.specs.Limits.{SpendsResults};
 ghost use Rattle.lf_signature.specs.Nodes.{IsIdOf};
 ghost use Rattle.formula_tree.specs.Formulas.{Exp, ELit};
 ghost use Rattle.lf_terms.specs.Encoding.{exp_encoding};
@@ -43,7 +43,7 @@ fn second_moved(
         → IfOk result (IsIdOf table.new (second_moved rel x y q (tree_at table.old proof))) }
     ensures extends { Extends table.old table.new }
     ensures memo { IsMemo table.new memo.new }
-    ensures spends { Spends table.new memo.old memo.new result }
+    ensures spends { SpendsResults table.new memo.old memo.new result }
 {
     let under = raised(table, memo, a)?;
     let place = table.intern(Node::Var(0))?;
@@ -76,7 +76,7 @@ fn first_moved(
         → IfOk result (IsIdOf table.new (first_moved rel x v w (tree_at table.old here.proof))) }
     ensures extends { Extends table.old table.new }
     ensures memo { IsMemo table.new memo.new }
-    ensures spends { Spends table.new memo.old memo.new result }
+    ensures spends { SpendsResults table.new memo.old memo.new result }
 {
     let place = table.intern(Node::Var(0))?;
     let form = relation(table, rel, place, word)?;
@@ -107,7 +107,7 @@ pub fn equal_proof(
         → IsRewritten table.old q g → IfOk result (IsIdOf table.new (equal_proof x y f g)) }
     ensures extends { Extends table.old table.new }
     ensures memo { IsMemo table.new memo.new }
-    ensures spends { Spends table.new memo.old memo.new result }
+    ensures spends { SpendsResults table.new memo.old memo.new result }
 {
     second_moved(table, memo, Rel::Eq, a, b, q, p.proof)
 }
@@ -138,7 +138,7 @@ fn words_proof(
         (words_proof rel x y v w (tree_at table.old p.proof) (tree_at table.old q.proof))) }
     ensures extends { Extends table.old table.new }
     ensures memo { IsMemo table.new memo.new }
-    ensures spends { Spends table.new memo.old memo.new result }
+    ensures spends { SpendsResults table.new memo.old memo.new result }
 {
     let first = first_moved(table, memo, rel, a, v, w, p, q.now)?;
     second_moved(table, memo, rel, a, b, q, first)
@@ -167,7 +167,7 @@ fn held_of_words(
         → IfOk result (Stands table.new (held_of_words rel x y f.now f.proof g.now g.proof)) }
     ensures extends { Extends table.old table.new }
     ensures memo { IsMemo table.new memo.new }
-    ensures spends { Spends table.new memo.old memo.new result }
+    ensures spends { SpendsResults table.new memo.old memo.new result }
 {
     match word_at(table, p.now) {
         None => Ok(None),
@@ -208,7 +208,7 @@ fn equal_forms(
         → IfOk result (Stands table.new (equal_forms rel x y f g)) }
     ensures extends { Extends table.old table.new }
     ensures memo { IsMemo table.new memo.new }
-    ensures spends { Spends table.new memo.old memo.new result }
+    ensures spends { SpendsResults table.new memo.old memo.new result }
 {
     match rel {
         Rel::Eq => {
@@ -254,7 +254,7 @@ pub fn proof_by_forms(
         (first_of (held_of_words rel x y f.now f.proof g.now g.proof) (equal_forms rel x y f g))) }
     ensures extends { Extends table.old table.new }
     ensures memo { IsMemo table.new memo.new }
-    ensures spends { Spends table.new memo.old memo.new result }
+    ensures spends { SpendsResults table.new memo.old memo.new result }
 {
     // Copies, which the borrow checker doesn't see in a struct with ids.
     let first = Rewritten {

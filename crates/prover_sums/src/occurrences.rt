@@ -3,7 +3,7 @@
 ghost use Rattle.std.specs.Prelude.{◌≡◌, IfOk, OnOk};
 ghost use Rattle.term_table.specs.Table.{IsKnown, tree_at};
 ghost use Rattle.hereditary_subst.specs.Kept.{IsMemo};
-ghost use Rattle.hereditary_subst.specs.Limits.{Spends};
+ghost use Rattle.hereditary_subst.specs.Limits.{SpendsResults};
 ghost use Rattle.prover_sums.specs.Sums.{OccursInExp, OccursInMem};
 ghost use Rattle.prover_sums.specs.Occurrences.{AreOccurrences};
 
@@ -54,7 +54,7 @@ pub fn occurs(
     ensures exact { IfOk result (OccursInExp table.now e) }
     ensures memo { IsMemo table.now memo.new }
     ensures kept { AreOccurrences table.now kept.new }
-    ensures spends { Spends table.now memo.old memo.new result }
+    ensures spends { SpendsResults table.now memo.old memo.new result }
 {
     let question = Occurring::Exp(number(e));
     if let Some(occurs) = kept.get(table, &[], &question) {
@@ -79,7 +79,7 @@ fn occurs_in_parts(
     ensures exact { IfOk result (OccursInExp table.now e) }
     ensures memo { IsMemo table.now memo.new }
     ensures kept { AreOccurrences table.now kept.new }
-    ensures spends { Spends table.now memo.old memo.new result }
+    ensures spends { SpendsResults table.now memo.old memo.new result }
 {
     match exp_node(table, e) {
         ExpNode::Var(n) => Ok(n == 0),
@@ -111,7 +111,7 @@ fn occurs_in_mem(
     ensures exact { IfOk result (OccursInMem table.now m) }
     ensures memo { IsMemo table.now memo.new }
     ensures kept { AreOccurrences table.now kept.new }
-    ensures spends { Spends table.now memo.old memo.new result }
+    ensures spends { SpendsResults table.now memo.old memo.new result }
 {
     let question = Occurring::Mem(number(m));
     if let Some(occurs) = kept.get(table, &[], &question) {
@@ -136,7 +136,7 @@ fn occurs_in_mem_parts(
     ensures exact { IfOk result (OccursInMem table.now m) }
     ensures memo { IsMemo table.now memo.new }
     ensures kept { AreOccurrences table.now kept.new }
-    ensures spends { Spends table.now memo.old memo.new result }
+    ensures spends { SpendsResults table.now memo.old memo.new result }
 {
     match mem_node(table, m) {
         MemNode::Var(n) => Ok(n == 0),

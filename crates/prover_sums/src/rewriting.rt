@@ -5,7 +5,7 @@
 ghost use Rattle.std.specs.Prelude.{◌≡◌, ◌<◌, ℕ, IfOk, List};
 ghost use Rattle.term_table.specs.Table.{IsKnown, tree_at, Extends};
 ghost use Rattle.hereditary_subst.specs.Kept.{IsMemo};
-ghost use Rattle.hereditary_subst.specs.Limits.{Spends, NeverResults};
+ghost use Rattle.hereditary_subst.specs.Limits.{SpendsResults, NeverResults};
 ghost use Rattle.word_ops.specs.Words.{word_of};
 ghost use Rattle.word_ops.specs.declared.Op.TheVariants.{Add};
 ghost use Rattle.formula_tree.specs.Formulas.{Exp, ELit, EOp};
@@ -251,7 +251,7 @@ fn turned(
         → IfOk result (λ s. AreRewrites table.new s (turned x y z)) }
     ensures extends { Extends table.old table.new }
     ensures memo { IsMemo table.new memo.new }
-    ensures spends { Spends table.new memo.old memo.new result }
+    ensures spends { SpendsResults table.new memo.old memo.new result }
 {
     let first = ungrouped(table, memo, e, a, b, c)?;
     let above = raised(table, memo, c)?;
@@ -285,7 +285,7 @@ fn ungrouped(
         → IfOk result (λ s. IsRewrite table.new s (ungrouped_of x y z)) }
     ensures extends { Extends table.old table.new }
     ensures memo { IsMemo table.new memo.new }
-    ensures spends { Spends table.new memo.old memo.new result }
+    ensures spends { SpendsResults table.new memo.old memo.new result }
 {
     let sum = oper(table, Op::Add, a, b)?;
     let grouped = oper(table, Op::Add, sum, c)?;
@@ -370,7 +370,7 @@ fn all_under_left(
         → IfOk result (λ s. AreRewrites table.new s (in_left op y l)) }
     ensures extends { Extends table.old table.new }
     ensures memo { IsMemo table.new memo.new }
-    ensures spends { Spends table.new memo.old memo.new result }
+    ensures spends { SpendsResults table.new memo.old memo.new result }
 {
     let above = raised(table, memo, right)?;
     match steps {
@@ -406,7 +406,7 @@ fn all_under_right(
         → IfOk result (λ s. AreRewrites table.new s (in_right op y l)) }
     ensures extends { Extends table.old table.new }
     ensures memo { IsMemo table.new memo.new }
-    ensures spends { Spends table.new memo.old memo.new result }
+    ensures spends { SpendsResults table.new memo.old memo.new result }
 {
     let above = raised(table, memo, left)?;
     match steps {
@@ -447,7 +447,7 @@ fn rewrites_by(
         → IfOk result (λ s. AreRewrites table.new s (rewrite_at out op x y)) }
     ensures extends { Extends table.old table.new }
     ensures memo { IsMemo table.new memo.new }
-    ensures spends { Spends table.new memo.old memo.new result }
+    ensures spends { SpendsResults table.new memo.old memo.new result }
 {
     match rule {
         Rule::Nothing => Ok(Rewrites::Nothing),
@@ -483,7 +483,7 @@ pub(crate) fn redex(
         → IfOk result (λ s. AreRewrites table.new s (redex outside x)) }
     ensures extends { Extends table.old table.new }
     ensures memo { IsMemo table.new memo.new }
-    ensures spends { Spends table.new memo.old memo.new result }
+    ensures spends { SpendsResults table.new memo.old memo.new result }
 {
     match exp_node(table, e) {
         ExpNode::Apply(op, a, b) => redex_of_parts(table, memo, outside, op, e, a, b),
@@ -513,7 +513,7 @@ fn redex_of_parts(
         → IfOk result (λ s. AreRewrites table.new s (redex outside (EOp op x y))) }
     ensures extends { Extends table.old table.new }
     ensures memo { IsMemo table.new memo.new }
-    ensures spends { Spends table.new memo.old memo.new result }
+    ensures spends { SpendsResults table.new memo.old memo.new result }
 {
     let left = redex(table, memo, outside, a)?;
     if has_rewrites(&left) {

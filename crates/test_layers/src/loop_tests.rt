@@ -94,9 +94,12 @@ fn proved_fields(policy: &Policy, bytes: &[u8], passed: Passed<'_>) -> Made<Vec<
 
 /// The container of the loop with the kit's proof.
 fn proved_loop(alloc: Global, policy: &Policy) -> Made<Vec<u8>> {
-    let bytes = unproved(alloc, policy)?;
-    let passed = made(front(alloc, policy, &bytes))?;
-    let fields = proved_fields(policy, &bytes, passed)?;
+    let container_bytes = unproved(alloc, policy)?;
+    let bytes = container_bytes.as_slice();
+    let Ok(passed) = front(alloc, policy, bytes) else {
+        return Err("it doesn't pass the checks before the proof");
+    };
+    let fields = proved_fields(policy, bytes, passed)?;
     made(container(alloc, policy, 3, fields.as_slice()))
 }
 

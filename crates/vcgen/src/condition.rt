@@ -4,7 +4,7 @@ ghost use Rattle.std.specs.Prelude.{◌≡◌, ℕ, List, ◌<◌, ◌≤◌, If
 ghost use Rattle.alpha_cfg.specs.Cuts.{AreFlags};
 ghost use Rattle.term_table.specs.Table.{IsKnown, tree_at, Extends, id_trees};
 ghost use Rattle.hereditary_subst.specs.Kept.{IsMemo};
-ghost use Rattle.hereditary_subst.specs.Limits.{Spends};
+ghost use Rattle.hereditary_subst.specs.Limits.{SpendsResults};
 ghost use Rattle.lf_signature.specs.Nodes.{IsIdOf};
 ghost use Rattle.lf_signature.specs.Terms.{imp_term};
 ghost use Rattle.lf_encode.specs.PutTree.{machine_terms_at};
@@ -108,7 +108,7 @@ fn inv_parts(
         (part_terms p.bound p.code.now invs (tree_at t p.post) rest)) }
     ensures extends { Extends table.old table.new }
     ensures shifts { IsMemo table.new shifts.new }
-    ensures spends { Spends table.new shifts.old shifts.new result }
+    ensures spends { SpendsResults table.new shifts.old shifts.new result }
 {
     if from == program.invs.len() {
         return Ok(table.intern(Node::Const(TT))?);
@@ -142,7 +142,7 @@ fn condition_of(
         (condition_term p.bound p.code.now invs (tree_at t pre) (tree_at t p.post))) }
     ensures extends { Extends table.old table.new }
     ensures shifts { IsMemo table.new shifts.new }
-    ensures spends { Spends table.new shifts.old shifts.new result }
+    ensures spends { SpendsResults table.new shifts.old shifts.new result }
 {
     let mut kept = PutMemo::new(table.allocator());
     let start = Symbols::start(table)?;
@@ -173,7 +173,7 @@ fn encoded_condition(
         (condition_term bound code.now (id_trees t invs.now) pre post)) }
     ensures extends { Extends table.old table.new }
     ensures shifts { IsMemo table.new shifts.new }
-    ensures spends { Spends table.new shifts.old shifts.new result }
+    ensures spends { SpendsResults table.new shifts.old shifts.new result }
 {
     let _ = code.insns(); // tells the prover that this is code
     policy.laws(); // tells the prover what the formulas name, and that they aren't high

@@ -5,7 +5,7 @@ ghost use Rattle.term_table.specs.Tree.{shift, fits};
 ghost use Rattle.term_table.specs.Table.{IsKnown, tree_at, Extends};
 ghost use Rattle.term_table.specs.Measures.{height_of};
 ghost use Rattle.hereditary_subst.specs.Kept.{IsMemo};
-ghost use Rattle.hereditary_subst.specs.Limits.{Spends};
+ghost use Rattle.hereditary_subst.specs.Limits.{SpendsResults};
 ghost use Rattle.lf_encode.specs.PutTree.{machine_terms_at, put_tree};
 ghost use Rattle.lf_encode.specs.Kept.{AreMachineTerms, IsPutMemo};
 ghost use Rattle.lf_signature.specs.Terms.{lit, sel, upd, op_term, rel_term};
@@ -171,7 +171,7 @@ impl Symbols {
         ensures extends { Extends table.old table.new }
         ensures shifts { IsMemo table.new shifts.new }
         ensures kept { IsPutMemo table.new (ids_of self.now) kept.new }
-        ensures spends { Spends table.new shifts.old shifts.new result }
+        ensures spends { SpendsResults table.new shifts.old shifts.new result }
     {
         let ids = MachineIds {
             regs: self.regs,

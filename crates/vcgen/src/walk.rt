@@ -16,7 +16,7 @@ ghost use Rattle.vcgen.specs.WalkTree.{walked, walked_at, one_less};
 ghost use Rattle.vcgen.specs.WalkTree.{start_terms, entry_terms};
 ghost use Rattle.vcgen.specs.Symbols.{ids_of, inv_id};
 ghost use Rattle.vcgen.specs.Inside.Walks.{Walks};
-ghost use Rattle.hereditary_subst.specs.Limits.{Spends};
+ghost use Rattle.hereditary_subst.specs.Limits.{SpendsResults};
 
 use crate::effects::{Effect, counted_step, effect_at};
 use crate::symbols::Symbols;
@@ -70,7 +70,7 @@ pub(crate) fn walk(
         IfOk result (IsIdOf table.new (walk index terms)) }
     ensures extends { Extends table.old table.new }
     ensures walking { Walks table.new program.now symbols.now shifts.new kept.new }
-    ensures spends { Spends table.new shifts.old shifts.new result }
+    ensures spends { SpendsResults table.new shifts.old shifts.new result }
 {
     match invariant(program.invs, index) {
         Some(inv) => symbols.put(table, shifts, kept, inv),
@@ -106,7 +106,7 @@ pub(crate) fn walk_with(
         IfOk result (IsIdOf table.new (walk index terms)) }
     ensures extends { Extends table.old table.new }
     ensures walking { Walks table.new program.now symbols.now shifts.new kept.new }
-    ensures spends { Spends table.new shifts.old shifts.new result }
+    ensures spends { SpendsResults table.new shifts.old shifts.new result }
 {
     // Only the clauses speak of them.
     let _ = symbols;
@@ -142,7 +142,7 @@ fn walk_both(
         (imp_term (tree_at t passed.0) (walk passed.1 terms)))) }
     ensures extends { Extends table.old table.new }
     ensures walking { Walks table.new program.now symbols.now shifts.new kept.new }
-    ensures spends { Spends table.new shifts.old shifts.new result }
+    ensures spends { SpendsResults table.new shifts.old shifts.new result }
 {
     let there = walk(table, shifts, kept, program, fuel, taken.1, symbols)?;
     let onward = walk(table, shifts, kept, program, fuel, passed.1, symbols)?;
@@ -175,7 +175,7 @@ fn walk_behind(
         IfOk result (IsIdOf table.new (and_term (tree_at t allowed) (walk index terms))) }
     ensures extends { Extends table.old table.new }
     ensures walking { Walks table.new program.now symbols.now shifts.new kept.new }
-    ensures spends { Spends table.new shifts.old shifts.new result }
+    ensures spends { SpendsResults table.new shifts.old shifts.new result }
 {
     let rest = walk_with(table, shifts, kept, program, fuel, index, symbols, after)?;
     Ok(app2(table, AND, allowed, rest)?)
@@ -204,7 +204,7 @@ fn walk_insn(
         IfOk result (IsIdOf table.new (walked_at None walk post index insn terms)) }
     ensures extends { Extends table.old table.new }
     ensures walking { Walks table.new program.now symbols.now shifts.new kept.new }
-    ensures spends { Spends table.new shifts.old shifts.new result }
+    ensures spends { SpendsResults table.new shifts.old shifts.new result }
 {
     let insn = program.code.insn(index);
     let next = index + 1;
@@ -251,7 +251,7 @@ fn walk_insn_with(
         IfOk result (IsIdOf table.new (walked_at None walk post index insn terms)) }
     ensures extends { Extends table.old table.new }
     ensures walking { Walks table.new program.now symbols.now shifts.new kept.new }
-    ensures spends { Spends table.new shifts.old shifts.new result }
+    ensures spends { SpendsResults table.new shifts.old shifts.new result }
 {
     // Only the clauses speak of them.
     let _ = symbols;
@@ -285,7 +285,7 @@ fn walk_counted(
         IfOk result (IsIdOf table.new (and_term here rest)) }
     ensures extends { Extends table.old table.new }
     ensures walking { Walks table.new program.now symbols.now shifts.new kept.new }
-    ensures spends { Spends table.new shifts.old shifts.new result }
+    ensures spends { SpendsResults table.new shifts.old shifts.new result }
 {
     let (here, after) = counted_step(table, symbols)?;
     let rest = walk_insn_with(table, shifts, kept, program, fuel, index, symbols, &after)?;
@@ -314,7 +314,7 @@ pub(crate) fn walk_from(
         IfOk result (IsIdOf table.new (walked_at p.bound walk post index insn terms)) }
     ensures extends { Extends table.old table.new }
     ensures walking { Walks table.new program.now symbols.now shifts.new kept.new }
-    ensures spends { Spends table.new shifts.old shifts.new result }
+    ensures spends { SpendsResults table.new shifts.old shifts.new result }
 {
     match program.bound {
         None => walk_insn(table, shifts, kept, program, fuel, index, symbols),
@@ -340,7 +340,7 @@ pub(crate) fn walk_entry(
         IfOk result (IsIdOf table.new (walk 0 (entry_terms p.bound))) }
     ensures extends { Extends table.old table.new }
     ensures walking { Walks table.new program.now start.now shifts.new kept.new }
-    ensures spends { Spends table.new shifts.old shifts.new result }
+    ensures spends { SpendsResults table.new shifts.old shifts.new result }
 {
     let count = program.code.count();
     match program.bound {

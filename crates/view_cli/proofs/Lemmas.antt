@@ -17,10 +17,10 @@ use Rattle.proof_container.specs.declared.limits.TheConstants.{MAX_BYTES}
 use Rattle.term_table.specs.Steps.{◌>>=◌}
 use Rattle.view_container.specs.declared.stop.ListFault.{ListFault}
 use Rattle.view_container.specs.declared.stop.ListFault.TheVariants.{TooLong, Malformed}
+use Rattle.view_container.specs.Beside.{BesideView}
 use Rattle.view_container.specs.Listing.{listing_text, listing_of}
 use Rattle.pcc_words.specs.Commands.{IsVersionOf}
 use Rattle.pcc_stages.specs.Stage.{gives}
-use Rattle.view_cli.specs.Commands.List.{lines_found}
 
 -- ---- packets
 
@@ -79,35 +79,16 @@ bound-in-range (Some n) version h = h
 -- ---- listings
 
 -- the listing of what was read
-pub listing-read : (bytes lines : List ℕ) (c : Contents) → length bytes ≤ MAX_BYTES
-    → decoded_container bytes ≡ Ok c → listing_of bytes lines ≡ Ok (listing_text c lines)
+pub listing-read : (bytes : List ℕ) (beside : BesideView) (c : Contents) → length bytes ≤ MAX_BYTES
+    → decoded_container bytes ≡ Ok c → listing_of bytes beside ≡ Ok (listing_text c beside)
 unfolding listing_of
-listing-read bytes lines c short is =
+listing-read bytes beside c short is =
     ap
     (λ (b : Bool).
     (if b then Err (TooLong (length bytes)) else contents_or (λ at what. Malformed at what) (decoded_container bytes))
-    >>= λ x. Ok (listing_text x lines)) (le-ltb MAX_BYTES (length bytes) short)
+    >>= λ x. Ok (listing_text x beside)) (le-ltb MAX_BYTES (length bytes) short)
     ∙ ap
-    (λ (r : Result Contents Fault). contents_or (λ at what. Malformed at what) r >>= λ x. Ok (listing_text x lines)) is
-
--- ---- lines
-
--- instructions without addresses have the numbers of the same lines
-same-lines : (insns : List (ℕ × SrcInsn))
-    → map (λ (i : ℕ × SourceInsn). i.0)
-    (map (λ (p : ℕ × SrcInsn). (p.0, source_insn_view p.1)) insns)
-    ≡ map (λ (i : ℕ × SrcInsn). i.0) insns
-same-lines [] = refl
-same-lines (x ∷ xs) = ap (λ (r : List ℕ). x.0 ∷ r) (same-lines xs)
-
--- the lines of the instructions of what was read as a source
-pub lines-read : (parsed : Result Source (ℕ × LineFlaw)) (s : source.Source) (lines : List ℕ)
-    → parsed ≡ Ok (source_view s) → lines ≡ map (λ (i : ℕ × SrcInsn). i.0) s.insns.items
-    → lines_found parsed ≡ gives lines
-unfolding source_view
-lines-read parsed s lines is same =
-    ap (λ (r : Result Source (ℕ × LineFlaw)). lines_found r) is
-    ∙ ap (λ (l : List ℕ). gives l) (same-lines s.insns.items ∙ sym same)
+    (λ (r : Result Contents Fault). contents_or (λ at what. Malformed at what) r >>= λ x. Ok (listing_text x beside)) is
 
 -- a listing, if there is one
 text_in : Result (List ℕ) ListFault → List ℕ
@@ -115,16 +96,16 @@ text_in (Ok text) = text
 text_in (Err fault) = []
 
 -- the listing that is told is that of what was read
-pub told-text : (bytes lines : List ℕ) (c : Contents) (text : List ℕ) → length bytes ≤ MAX_BYTES
-    → decoded_container bytes ≡ Ok c → listing_of bytes lines ≡ Ok text
-    → listing_text c lines ≡ text
+pub told-text : (bytes : List ℕ) (beside : BesideView) (c : Contents) (text : List ℕ) → length bytes ≤ MAX_BYTES
+    → decoded_container bytes ≡ Ok c → listing_of bytes beside ≡ Ok text
+    → listing_text c beside ≡ text
 unfolding text_in
-told-text bytes lines c text short is told =
-    ap text_in (sym (listing-read bytes lines c short is) ∙ told)
+told-text bytes beside c text short is told =
+    ap text_in (sym (listing-read bytes beside c short is) ∙ told)
 
 -- no fault is told of what was read
-pub told-no-fault : {A : Type 0} (bytes lines : List ℕ) (c : Contents) (fault : ListFault)
+pub told-no-fault : {A : Type 0} (bytes : List ℕ) (beside : BesideView) (c : Contents) (fault : ListFault)
     → length bytes ≤ MAX_BYTES → decoded_container bytes ≡ Ok c
-    → listing_of bytes lines ≡ Err fault → A
-told-no-fault bytes lines c fault short is told =
-    absurd (true≢false (ap is_ok (sym (listing-read bytes lines c short is) ∙ told)))
+    → listing_of bytes beside ≡ Err fault → A
+told-no-fault bytes beside c fault short is told =
+    absurd (true≢false (ap is_ok (sym (listing-read bytes beside c short is) ∙ told)))

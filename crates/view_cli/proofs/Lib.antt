@@ -1,5 +1,6 @@
 mod Lemmas
 mod LineNumbers
+mod SourceCodes
 mod Always
 mod PureStages
 mod CommandStages

@@ -33,7 +33,8 @@ use Rattle.pcc_stages.specs.Stages.Common.{refused}
 use Rattle.pcc_stages.specs.Stages.Containers.{container_for, container_in, code_found, code_in}
 use Rattle.pcc_stages.specs.Stages.Packets.{packets_found, packets_in}
 use Rattle.pcc_stages.specs.Stages.Policies.{policy_spelled, policy_in}
-use Rattle.view_cli.specs.Commands.List.{lines_found, lines_in}
+use Rattle.view_source_faults.specs.SourceCode.{LinesAndCode, WrongLine, source_code}
+use Rattle.view_cli.specs.Commands.List.{beside_found, beside_in}
 use Rattle.view_looks.specs.Looks.{no_container_text}
 use Rattle.view_looks.specs.declared.looks.Look.{Look}
 
@@ -105,15 +106,14 @@ policy_form_begins line position kind = before (policy_form_line line position k
 
 -- ---- stages
 
-lines_end : (r : Result Source (ℕ × LineFlaw)) → EndsAs (lines_found r)
-lines_end (Ok s) = gave _ refl
-lines_end (Err fault) =
-    refused_by _ (source_fault_begins fault.0 (line_flaw_name fault.1)) refl
+beside_end : (r : Result LinesAndCode WrongLine) → EndsAs (beside_found r)
+beside_end (Ok source) = gave _ refl
+beside_end (Err wrong) = refused_by _ (source_fault_begins wrong.0 wrong.1) refl
 
-pub lines_in_end : (version : ℕ) (bound : Option ℕ) (text : List ℕ)
-    → EndsAs (lines_in version bound text)
-unfolding lines_in
-lines_in_end version bound text = lines_end (parsed_source (profile_of version) (is_some bound) text)
+pub beside_in_end : (version : ℕ) (bound : Option ℕ) (text : List ℕ)
+    → EndsAs (beside_in version bound text)
+unfolding beside_in
+beside_in_end version bound text = beside_end (source_code version bound text)
 
 for_policy : (c : Contents) (b : Bool)
     → EndsAs (if b then gives c else stops (refused (refusal_line (refusal.OtherPolicy c.head))))

@@ -51,8 +51,9 @@ use Rattle.view_container.specs.Laws.{AreLineNumbers, IsListedSource}
 use Rattle.view_container.specs.Listing.{listing_text}
 use Rattle.view_container.specs.Sources.{source_listing}
 use Rattle.view_goal_text.specs.Laws.{NamesFirst}
-use Rattle.view_goal_text.specs.Lines.{verdict_line}
-use Rattle.view_goal_text.specs.Texts.{goal_lines_text}
+use Rattle.view_labels.specs.Labels.{verdict_line}
+use Rattle.view_lines.specs.Texts.{goal_lines_text}
+use Rattle.view_goal_text.specs.Styles.{StyleView}
 use Rattle.view_goal_text.specs.Listing.{goal_parts, parts_lines, goals_text, goals_of_code, goals_read, listed_unless, goals_of_bytes}
 use Rattle.view_trace.specs.Traces.{trace_from, packet_text}
 use Rattle.view_faults.specs.FormReports.{without_lf, formula_line, form_fault_text, report_of_form, formula_report}
@@ -77,29 +78,33 @@ use Rattle.pcc_stages.specs.Stages.Common.{refused, policy_found, ending}
 use Rattle.pcc_stages.specs.Stages.Containers.{code_in, code_of}
 use Rattle.pcc_stages.specs.Stages.Packets.{packets_found, packets_in, packets_of}
 use Rattle.pcc_stages.specs.Stages.Policies.{no_policy_spelled, policy_spelled, policy_in, policy_from, policy_told}
+use Rattle.view_container.specs.Beside.{BesideView, nothing_beside, first_other}
+use Rattle.view_source_faults.specs.SourceCode.{LinesAndCode, WrongLine, source_code}
 use Rattle.view_cli.specs.Invocations.{ViewInvocation}
 use Rattle.view_cli.specs.Invocations as views
 use Rattle.view_cli.specs.Texts.{view_texts, formula_too_long_line}
 use Rattle.view_cli.specs.declared.limits.TheConstants.{MAX_FORMULA}
 use Rattle.view_cli.specs.Commands.Faults.{told_exit, formula_command, policy_command, source_command}
-use Rattle.view_cli.specs.Commands.Goals.{goals_found, goals_command}
-use Rattle.view_cli.specs.Commands.List.{lines_found, lines_in, source_lines_of, listing_in, list_command}
+use Rattle.view_cli.specs.Commands.Goals.{goals_found, beside_read, style_of, goals_styled, goals_command}
+use Rattle.view_cli.specs.Commands.List.{beside_found, beside_in, source_beside, listing_in, list_command}
 use Rattle.view_cli.specs.Commands.Packet.{traced_exit, where_started, packet_command}
 use Rattle.view_cli.specs.Tasks.{view_task}
-use Rattle.view_cli.specs.Headline.{IsToldBy, AreLinesOf, ListsContents, first_hard_part, ListsGoals, EndsWithLine, TracesPacket}
+use Rattle.view_cli.specs.Headline.{IsToldBy, IsBeside, ListsContents, first_hard_part, ListsGoals, EndsWithLine, TracesPacket}
 use Rattle.view_cli.specs.Headline.{SaysOfForm, SaysOfPolicy, IsToldWithMark, SaysOfSource, SaysOf, SaysOfText, IsShown, RunShows}
 use Rattle.view_cli.specs.Headline.{came_to, ran_out, ShowsIfCommand}
 use Rattle.view_cli.proofs.Always.{Always, always_comes}
 use Rattle.view_cli.proofs.CommandStages.{listing_stage, lines_stage, goals_stage, goals_under, last_stage, code_stage, policy_stage}
 use Rattle.view_cli.proofs.LineNumbers.{line_numbers}
+use Rattle.view_cli.proofs.SourceCodes.{of_source, none_noted}
 use Rattle.view_cli.proofs.PureStages.{EndsAs, gave, refused_by, had_no_memory, code_end, packets_in_end, policy_in_end}
 
 -- what the definitions beneath are worth
 pub record ViewLaws : Type 0 where
   pub contents : (bytes : List ℕ) (c : Contents) → IsBytes bytes
       → EncodesContents bytes c ↔ (decoded_container bytes ≡ Ok c)
-  pub listed : (c : Contents) (lines text : List ℕ) → IsContents c → AreLineNumbers lines
-      → source_listing c lines ≡ Ok text → IsListedSource c lines text
+  pub listed : (c : Contents) (beside : BesideView) (text : List ℕ) → IsContents c
+      → AreLineNumbers beside.lines → source_listing c beside ≡ Ok text → IsListedSource c beside text
+  pub same : (code other : List ℕ) → (first_other code other ≡ None) ↔ (code ≡ other)
   pub policies : (bytes : List ℕ) (policy : PolicyView)
       → SpellsPolicy bytes policy ↔ (policy_read bytes ≡ Ok policy)
   pub forms : (p : Profile) (left : Bool) (text : List ℕ) (F : Form)
@@ -184,59 +189,64 @@ module _ (laws : ViewLaws) (file : List ℕ) where
   Listed from b es text = ListsContents file from (was_read file MAX_FILE (whole b) ∷ es) text
 
   listed_beside : (from : Option (List ℕ)) (b : List ℕ) → IsBytes b → (c : Contents)
-      → decoded_container b ≡ Ok c → (later : List Event) (lines : List ℕ)
-      → AreLinesOf from c later lines → AreLineNumbers lines
-      → Listed from b later (listing_text c lines)
-  listed_beside from b octets c is later lines beside fit =
+      → decoded_container b ≡ Ok c → (later : List Event) (beside : BesideView)
+      → IsBeside from c later beside → AreLineNumbers beside.lines
+      → Listed from b later (listing_text c beside)
+  listed_beside from b octets c is later beside beside_is fit =
       let held : EncodesContents b c = (laws.contents b c octets).1 is in
       record {
         bytes = b;
         contents = c;
-        lines = lines;
+        beside = beside;
         later = later;
         reads = refl;
         holds = is;
-        beside = beside;
+        beside_is = beside_is;
         listing = refl;
-        assembled = λ t. laws.listed c lines t held.contents fit;
+        assembled = λ t. laws.listed c beside t held.contents fit;
+        same = λ code. none_noted laws.same c.code beside code;
       }
 
   list_plain : (b : List ℕ) → IsBytes b → (c : Contents) → decoded_container b ≡ Ok c
       → Always view_texts (Done (Listed None b)) (lines_stage None c >>= ending)
-  unfolding source_lines_of
+  unfolding source_beside
   list_plain b octets c is = (
     refl,
-    λ z. listed_beside None b octets c is [] [] (refl, refl) (λ i n at. absurd (none-some n at)),
+    λ z.
+        listed_beside None b octets c is [] nothing_beside (refl, refl)
+        (λ i n at. absurd (none-some n at)),
   )
 
   list_parsed : (b : List ℕ) → IsBytes b → (c : Contents) → decoded_container b ≡ Ok c
-      → (from text : List ℕ) → length text ≤ MAX_SOURCE → (r : Result Source (ℕ × LineFlaw))
-      → parsed_source (profile_of c.version) (is_some c.bound) text ≡ r
+      → (from text : List ℕ) → length text ≤ MAX_SOURCE → (r : Result LinesAndCode WrongLine)
+      → source_code c.version c.bound text ≡ r
       → Always view_texts
       (Done (λ es. Listed (Some from) b (was_read from MAX_SOURCE (whole text) ∷ es)))
-      ((lines_found r >>= listing_stage c) >>= ending)
-  list_parsed b octets c is from text short (Err fault) parsed = λ z. refused_none z
-  list_parsed b octets c is from text short (Ok s) parsed =
+      ((beside_found r >>= listing_stage c) >>= ending)
+  list_parsed b octets c is from text short (Err wrong) told = λ z. refused_none z
+  list_parsed b octets c is from text short (Ok x) told =
       let p = profile_of c.version in
-      let spelled : SpellsSource p (is_some c.bound) text s =
-      (laws.sources p (is_some c.bound) text s).1 parsed in (
+      let of = of_source c.version c.bound text x told in
+      let spelled : SpellsSource p (is_some c.bound) text of.source =
+      (laws.sources p (is_some c.bound) text of.source).1 of.parsed_is in
+      let fit = subst AreLineNumbers (sym of.lines)
+      (line_numbers p (is_some c.bound) text of.source short spelled) in (
         refl,
         λ z.
             listed_beside (Some from) b octets c is (was_read from MAX_SOURCE (whole text) ∷ [])
-            (map (λ insn. insn.0) s.insns) (text, s, refl, spelled, refl)
-            (line_numbers p (is_some c.bound) text s short spelled),
+            (record { lines = x.0; code = Some x.1 })
+            (text, of.source, of.code, refl, spelled, of.assembled, of.lines, ap Some of.bytes) fit,
       )
 
   list_with : (b : List ℕ) → IsBytes b → (c : Contents) → decoded_container b ≡ Ok c
       → (from : Option (List ℕ))
       → Always view_texts (Done (Listed from b)) (lines_stage from c >>= ending)
-  unfolding source_lines_of lines_in
+  unfolding source_beside beside_in
   list_with b octets c is None = list_plain b octets c is
   list_with b octets c is (Some from) =
       reads_on (Listed (Some from) b) from MAX_SOURCE source_too_long_line
-      (λ text. (lines_in c.version c.bound text >>= listing_stage c) >>= ending) (λ text _ short.
-      list_parsed b octets c is from text short
-      (parsed_source (profile_of c.version) (is_some c.bound) text) refl)
+      (λ text. (beside_in c.version c.bound text >>= listing_stage c) >>= ending) (λ text _ short.
+      list_parsed b octets c is from text short (source_code c.version c.bound text) refl)
 
   list_in : (from : Option (List ℕ)) (b : List ℕ) → IsBytes b → (r : Result Contents Fault)
       → decoded_container b ≡ r
@@ -288,21 +298,21 @@ module _
 
 -- ---- `goals`
 
--- what bytes hold whose goals are listed
-record Listing (policy : PolicyView) (bytes text : List ℕ) : Type 0 where
+-- what bytes hold whose goals are listed in a style
+record Listing (s : StyleView) (policy : PolicyView) (bytes text : List ℕ) : Type 0 where
   contents : Contents
   code : List Insn
   holds : decoded_container bytes ≡ Ok contents
   code_is : decoded_code (profile_of contents.version) contents.code ≡ Ok code
-  shown : goals_text policy contents code ≡ text
+  shown : goals_text s policy contents code ≡ text
 
 -- a listing is no refusal
-listing_code : (policy : PolicyView) (bytes text : List ℕ) (c : Contents)
+listing_code : (s : StyleView) (policy : PolicyView) (bytes text : List ℕ) (c : Contents)
     → decoded_container bytes ≡ Ok c → (r : Result (List Insn) CodeFlaw)
-    → decoded_code (profile_of c.version) c.code ≡ r → goals_of_code policy c r ≡ Ok text
-    → Listing policy bytes text
-listing_code policy bytes text c holds (Err flaw) code_is is = absurd (true≢false (sym (ap is_ok is)))
-listing_code policy bytes text c holds (Ok code) code_is is = record {
+    → decoded_code (profile_of c.version) c.code ≡ r → goals_of_code s policy c r ≡ Ok text
+    → Listing s policy bytes text
+listing_code s policy bytes text c holds (Err flaw) code_is is = absurd (true≢false (sym (ap is_ok is)))
+listing_code s policy bytes text c holds (Ok code) code_is is = record {
   contents = c;
   code = code;
   holds = holds;
@@ -310,23 +320,23 @@ listing_code policy bytes text c holds (Ok code) code_is is = record {
   shown = cc;
 }
 
-listing_read : (policy : PolicyView) (bytes text : List ℕ) (r : Result Contents Fault)
-    → decoded_container bytes ≡ r → goals_read policy r ≡ Ok text → Listing policy bytes text
-listing_read policy bytes text (Err fault) holds is = absurd (true≢false (sym (ap is_ok is)))
-listing_read policy bytes text (Ok c) holds is =
-    listing_code policy bytes text c holds (decoded_code (profile_of c.version) c.code) refl is
+listing_read : (s : StyleView) (policy : PolicyView) (bytes text : List ℕ) (r : Result Contents Fault)
+    → decoded_container bytes ≡ r → goals_read s policy r ≡ Ok text → Listing s policy bytes text
+listing_read s policy bytes text (Err fault) holds is = absurd (true≢false (sym (ap is_ok is)))
+listing_read s policy bytes text (Ok c) holds is =
+    listing_code s policy bytes text c holds (decoded_code (profile_of c.version) c.code) refl is
 
-listing_unless : (policy : PolicyView) (bytes text : List ℕ) (o : Option Refusal)
-    → listed_unless o (goals_read policy (decoded_container bytes)) ≡ Ok text
-    → Listing policy bytes text
-listing_unless policy bytes text (Some r) is = absurd (true≢false (sym (ap is_ok is)))
-listing_unless policy bytes text None is =
-    listing_read policy bytes text (decoded_container bytes) refl is
+listing_unless : (s : StyleView) (policy : PolicyView) (bytes text : List ℕ) (o : Option Refusal)
+    → listed_unless o (goals_read s policy (decoded_container bytes)) ≡ Ok text
+    → Listing s policy bytes text
+listing_unless s policy bytes text (Some r) is = absurd (true≢false (sym (ap is_ok is)))
+listing_unless s policy bytes text None is =
+    listing_read s policy bytes text (decoded_container bytes) refl is
 
-listing : (policy : PolicyView) (bytes text : List ℕ) → goals_of_bytes policy bytes ≡ Ok text
-    → Listing policy bytes text
+listing : (s : StyleView) (policy : PolicyView) (bytes text : List ℕ)
+    → goals_of_bytes s policy bytes ≡ Ok text → Listing s policy bytes text
 unfolding goals_of_bytes
-listing policy bytes text is = listing_unless policy bytes text (front_refusal policy bytes) is
+listing s policy bytes text is = listing_unless s policy bytes text (front_refusal policy bytes) is
 
 -- a text that ends with the line of a part
 ends_same : (front : List ℕ) (a b : Option ℕ) → a ≡ b
@@ -334,12 +344,12 @@ ends_same : (front : List ℕ) (a b : Option ℕ) → a ≡ b
 ends_same front a b is = (front, ap (λ (k : Option ℕ). front ++ verdict_line k) is)
 
 -- the last line of a listing
-listing_end : NamesFirst → (policy : PolicyView) (c : Contents) (code : List Insn)
-    → (front : List ℕ) × (goals_text policy c code ≡ front ++ verdict_line (first_hard_part policy c code))
+listing_end : NamesFirst → (s : StyleView) (policy : PolicyView) (c : Contents) (code : List Insn)
+    → (front : List ℕ) × (goals_text s policy c code ≡ front ++ verdict_line (first_hard_part policy c code))
 unfolding goals_text
-listing_end first policy c code =
+listing_end first s policy c code =
     let parts = goal_parts (annotated policy c.bound code (formulas c.invs)) in
-    ends_same (goal_lines_text c.bound (parts_lines c.bound 0 parts)) _ _ (first policy c.bound code c.invs)
+    ends_same (goal_lines_text c.bound (parts_lines s c.bound 0 parts)) _ _ (first policy c.bound code c.invs)
 
 -- `prove` names the part that isn't easy
 names_part : (policy : PolicyView) (bytes : List ℕ) (c : Contents) (code : List Insn) (k : ℕ)
@@ -356,41 +366,101 @@ names_part policy bytes c code k holds code_is hard none =
     (λ (o : Option ℕ). with_parts_proof c o
     (condition_proof (is_some c.bound) (condition_parts policy c.bound code c.invs))) hard
 
-module _ (laws : ViewLaws) (file : List ℕ) (word : PolicyWord) where
-  goals_listed : (told : List Event) (under : PolicyView) → IsToldBy word told under
-      → (b : List ℕ) (r : Result (List ℕ) Refusal) → goals_of_bytes under b ≡ r
-      → Always view_texts
-      (Done (λ es. ListsGoals word file (told ++ was_read file MAX_FILE (whole b) ∷ es)))
-      (goals_found r >>= ending)
-  goals_listed told under tells b (Err r) is = λ z. refused_none z
-  goals_listed told under tells b (Ok text) is =
-      let l = listing under b text is in
-      let end = listing_end laws.first under l.contents l.code in (
-        refl,
-        λ z. record {
-          policy = under;
-          told = told;
-          bytes = b;
-          contents = l.contents;
-          code = l.code;
-          reads = refl;
-          tells = tells;
-          listed = is;
-          holds = l.holds;
-          code_is = l.code_is;
-          shown = sym l.shown;
-          last = (end.0, sym l.shown ∙ end.1);
-          proves = λ k hard none. names_part under b l.contents l.code k l.holds l.code_is hard none;
-        },
-      )
+-- what is a container is one alone
+contents_same : (c d : Contents) → ◌≡◌ {A = Result Contents Fault} (Ok c) (Ok d) → c ≡ d
+contents_same c d is = ap (contents_or_this c) is
+  where
+    contents_or_this : Contents → Result Contents Fault → Contents
+    contents_or_this e (Ok f) = f
+    contents_or_this e (Err fault) = e
 
-  goals_show : Always view_texts (IsShown (views.goals word file)) (goals_command word file >>= ending)
+-- the goals that are found, or a refusal
+goals_out : (Q : List Event → List ℕ → Type 0) (r : Result (List ℕ) Refusal)
+    → ((text : List ℕ) → r ≡ Ok text → Q [] text) → Always view_texts (Done Q) (goals_found r >>= ending)
+goals_out Q (Err r) show = λ z. refused_none z
+goals_out Q (Ok text) show = (refl, λ z. show text refl)
+
+module _ (laws : ViewLaws) (file : List ℕ) (word : PolicyWord) (only_missing all : Bool) where
+  -- what was listed
+  abbrev GoalsListed : Option (List ℕ) → List Event → List ℕ → List Event → List ℕ → Type 0
+  GoalsListed from told b es text =
+      ListsGoals word file from only_missing all (told ++ was_read file MAX_FILE (whole b) ∷ es) text
+
+  goals_listed : (from : Option (List ℕ)) (told : List Event) (under : PolicyView)
+      → IsToldBy word told under → (b : List ℕ) (later : List Event) (beside : BesideView)
+      → ((c : Contents) → decoded_container b ≡ Ok c → IsBeside from c later beside)
+      → (text : List ℕ) → goals_of_bytes (style_of only_missing all beside.lines) under b ≡ Ok text
+      → GoalsListed from told b later text
+  goals_listed from told under tells b later beside beside_is text is =
+      let s = style_of only_missing all beside.lines in
+      let l = listing s under b text is in
+      let end = listing_end laws.first s under l.contents l.code in record {
+        policy = under;
+        told = told;
+        bytes = b;
+        contents = l.contents;
+        code = l.code;
+        beside = beside;
+        later = later;
+        reads = refl;
+        tells = tells;
+        beside_is = beside_is l.contents l.holds;
+        listed = is;
+        holds = l.holds;
+        code_is = l.code_is;
+        shown = sym l.shown;
+        last = (end.0, sym l.shown ∙ end.1);
+        proves = λ k hard none. names_part under b l.contents l.code k l.holds l.code_is hard none;
+      }
+
+  goals_parsed : (told : List Event) (under : PolicyView) → IsToldBy word told under → (b : List ℕ)
+      (c : Contents) → decoded_container b ≡ Ok c → (from text : List ℕ)
+      → (r : Result LinesAndCode WrongLine) → source_code c.version c.bound text ≡ r
+      → Always view_texts
+      (Done (λ es. GoalsListed (Some from) told b (was_read from MAX_SOURCE (whole text) ∷ es)))
+      ((beside_found r >>= goals_styled only_missing all under b) >>= ending)
+  goals_parsed told under tells b c is from text (Err wrong) parsed = λ z. refused_none z
+  goals_parsed told under tells b c is from text (Ok x) parsed =
+      let beside : BesideView = record { lines = x.0; code = Some x.1 } in
+      let later : List Event = was_read from MAX_SOURCE (whole text) ∷ [] in
+      let of = of_source c.version c.bound text x parsed in
+      let spelled : SpellsSource (profile_of c.version) (is_some c.bound) text of.source =
+      (laws.sources (profile_of c.version) (is_some c.bound) text of.source).1 of.parsed_is in
+      goals_out (λ es. GoalsListed (Some from) told b (was_read from MAX_SOURCE (whole text) ∷ es))
+      (goals_of_bytes (style_of only_missing all beside.lines) under b) (λ out ok.
+      goals_listed (Some from) told under tells b later beside (λ d held.
+      subst (λ (k : Contents). IsBeside (Some from) k later beside) (contents_same c d (sym is ∙ held))
+      (text, of.source, of.code, refl, spelled, of.assembled, of.lines, ap Some of.bytes)) out ok)
+
+  goals_in : (from : Option (List ℕ)) (told : List Event) (under : PolicyView)
+      → IsToldBy word told under → (b : List ℕ) (r : Result Contents Fault) → decoded_container b ≡ r
+      → Always view_texts (Done (GoalsListed from told b))
+      ((beside_read from r >>= goals_styled only_missing all under b) >>= ending)
+  unfolding source_beside beside_in
+  goals_in from told under tells b (Err fault) is =
+      goals_out (GoalsListed from told b) (goals_of_bytes (style_of only_missing all []) under b)
+      (λ out ok.
+      let l = listing (style_of only_missing all []) under b out ok in
+      absurd (true≢false (ap is_ok (sym l.holds ∙ is))))
+  goals_in None told under tells b (Ok c) is =
+      goals_out (GoalsListed None told b) (goals_of_bytes (style_of only_missing all []) under b)
+      (λ out ok. goals_listed None told under tells b [] nothing_beside (λ d held. (refl, refl)) out ok)
+  goals_in (Some from) told under tells b (Ok c) is =
+      reads_on (GoalsListed (Some from) told b) from MAX_SOURCE source_too_long_line
+      (λ text. (beside_in c.version c.bound text >>= goals_styled only_missing all under b) >>= ending)
+      (λ text octets short.
+      goals_parsed told under tells b c is from text (source_code c.version c.bound text) refl)
+
+  goals_show : (from : Option (List ℕ))
+      → Always view_texts (IsShown (views.goals word file from only_missing all))
+      (goals_command word file from only_missing all >>= ending)
   unfolding goals_command
-  goals_show =
-      word_shows laws (goals_under file) (λ w. ListsGoals w file) word (λ told under tells.
-      reads_on (λ es. ListsGoals word file (told ++ es)) file MAX_FILE container_too_long_line
-      (λ b. goals_stage under b >>= ending) (λ b octets short.
-      goals_listed told under tells b (goals_of_bytes under b) refl))
+  goals_show from =
+      word_shows laws (goals_under from only_missing all file)
+      (λ w. ListsGoals w file from only_missing all) word (λ told under tells.
+      reads_on (λ es. ListsGoals word file from only_missing all (told ++ es)) file MAX_FILE
+      container_too_long_line (λ b. goals_stage from only_missing all under b >>= ending)
+      (λ b octets short. goals_in from told under tells b (decoded_container b) refl))
 
 -- ---- `packet`
 
@@ -852,7 +922,8 @@ source_shows laws file version bound =
 always_shown : ViewLaws → (invocation : ViewInvocation)
     → Always view_texts (IsShown invocation) (view_task (Some invocation)).stage
 always_shown laws (views.list file from) = list_shows laws file from
-always_shown laws (views.goals word file) = goals_show laws file word
+always_shown laws (views.goals word file from only_missing all) =
+    goals_show laws file word only_missing all from
 always_shown laws (views.packet word file packets k steps) =
     packet_shows laws file packets k steps word
 always_shown laws (views.formula file p left) = formula_shows laws file p left

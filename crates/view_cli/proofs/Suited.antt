@@ -44,14 +44,15 @@ use Rattle.view_cli.specs.Invocations as views
 use Rattle.view_cli.specs.Texts.{view_texts, formula_too_long_line, absent_packet_line, no_start_line}
 use Rattle.view_cli.specs.declared.limits.TheConstants.{MAX_FORMULA}
 use Rattle.view_cli.specs.Commands.Faults.{told_exit, formula_command, policy_command, source_command}
-use Rattle.view_cli.specs.Commands.Goals.{goals_found, goals_command}
-use Rattle.view_cli.specs.Commands.List.{lines_in, source_lines_of, listing_in, list_command}
+use Rattle.view_container.specs.Beside.{BesideView}
+use Rattle.view_cli.specs.Commands.Goals.{goals_found, beside_read, style_of, goals_styled, goals_command}
+use Rattle.view_cli.specs.Commands.List.{beside_in, source_beside, listing_in, list_command}
 use Rattle.view_looks.specs.Looks.{look_of}
 use Rattle.view_cli.specs.Commands.Packet.{traced_exit, where_started, packet_command}
 use Rattle.view_cli.specs.Tasks.{standing_if_found, view_task}
 use Rattle.view_cli.proofs.CommandStages.{listing_stage, lines_stage, goals_stage, goals_under, last_stage, code_stage, policy_stage}
 use Rattle.view_cli.proofs.PureStages.{BeginsBefore, EndsAs, gave, refused_by, had_no_memory, refusal_begins, no_container_begins}
-use Rattle.view_cli.proofs.PureStages.{lines_in_end, code_end, packets_in_end, policy_in_end}
+use Rattle.view_cli.proofs.PureStages.{beside_in_end, code_end, packets_in_end, policy_in_end}
 
 -- a line that begins with another letter isn't that of an unknown policy
 other_line : (line : List ℕ) → BeginsBefore line → line ≢ unknown_policy_line
@@ -169,11 +170,41 @@ goals_found_fits : (names : List (List ℕ)) (r : Result (List ℕ) Refusal)
 goals_found_fits names (Ok text) = refl
 goals_found_fits names (Err r) = inl (stop_line (refusal_line r) (refusal_begins r))
 
-goals_fits : (names : List (List ℕ)) (file : List ℕ) → Contains names file → (under : PolicyView)
-    → Fits names (goals_under file under >>= ending)
-goals_fits names file listed under =
-    reads_on names file MAX_FILE container_too_long_line (λ b. goals_stage under b >>= ending) listed
-    (omega arith) (λ b. goals_found_fits names (goals_of_bytes under b))
+-- behind SOURCE, which it may have
+goals_beside_fits : (names : List (List ℕ)) (from : List ℕ) (only_missing all : Bool)
+    (under : PolicyView) (b : List ℕ) → Contains names from → (c : Contents)
+    → Fits names ((source_beside c.version c.bound (Some from) >>= goals_styled only_missing all under b) >>= ending)
+unfolding source_beside
+goals_beside_fits names from only_missing all under b listed c =
+    reads_on names from MAX_SOURCE source_too_long_line
+    (λ text. (beside_in c.version c.bound text >>= goals_styled only_missing all under b) >>= ending) listed (omega arith)
+    (λ text. goes_on names (λ (y : Stage BesideView). (y >>= goals_styled only_missing all under b) >>= ending)
+    (λ exit. refl) (beside_in c.version c.bound text) (beside_in_end c.version c.bound text)
+    (λ beside. goals_found_fits names (goals_of_bytes (style_of only_missing all beside.lines) under b)))
+
+goals_alone_fits : (names : List (List ℕ)) (only_missing all : Bool) (under : PolicyView) (b : List ℕ)
+    (c : Contents)
+    → Fits names ((source_beside c.version c.bound None >>= goals_styled only_missing all under b) >>= ending)
+unfolding source_beside
+goals_alone_fits names only_missing all under b c =
+    goals_found_fits names (goals_of_bytes (style_of only_missing all []) under b)
+
+goals_in_fits : (names : List (List ℕ)) (from : Option (List ℕ)) (only_missing all : Bool)
+    (under : PolicyView) (b : List ℕ) (r : Result Contents Fault) → ((c : Contents)
+    → Fits names ((source_beside c.version c.bound from >>= goals_styled only_missing all under b) >>= ending))
+    → Fits names ((beside_read from r >>= goals_styled only_missing all under b) >>= ending)
+goals_in_fits names from only_missing all under b (Ok c) each = each c
+goals_in_fits names from only_missing all under b (Err fault) each =
+    goals_found_fits names (goals_of_bytes (style_of only_missing all []) under b)
+
+goals_fits : (names : List (List ℕ)) (file : List ℕ) (from : Option (List ℕ)) (only_missing all : Bool)
+    → Contains names file → ((under : PolicyView) (b : List ℕ) (c : Contents)
+    → Fits names ((source_beside c.version c.bound from >>= goals_styled only_missing all under b) >>= ending))
+    → (under : PolicyView) → Fits names (goals_under from only_missing all file under >>= ending)
+goals_fits names file from only_missing all listed each under =
+    reads_on names file MAX_FILE container_too_long_line
+    (λ b. goals_stage from only_missing all under b >>= ending) listed (omega arith)
+    (λ b. goals_in_fits names from only_missing all under b (decoded_container b) (each under b))
 
 traced_fits : (names : List (List ℕ)) (file packets : List ℕ) (k steps : ℕ) → Contains names file
     → Contains names packets → (under : PolicyView)
@@ -193,17 +224,17 @@ traced_fits names file packets k steps first second under =
 -- ---- all commands
 
 lines_fit : (names : List (List ℕ)) (c : Contents) (from : List ℕ) → Contains names from
-    → Fits names ((source_lines_of c.version c.bound (Some from) >>= listing_stage c) >>= ending)
-unfolding source_lines_of
+    → Fits names ((source_beside c.version c.bound (Some from) >>= listing_stage c) >>= ending)
+unfolding source_beside
 lines_fit names c from listed =
     reads_on names from MAX_SOURCE source_too_long_line
-    (λ b. (lines_in c.version c.bound b >>= listing_stage c) >>= ending) listed (omega arith) (λ b.
-    goes_on names (λ (y : Stage (List ℕ)). (y >>= listing_stage c) >>= ending) (λ exit. refl)
-    (lines_in c.version c.bound b) (lines_in_end c.version c.bound b) (λ lines. refl))
+    (λ b. (beside_in c.version c.bound b >>= listing_stage c) >>= ending) listed (omega arith) (λ b.
+    goes_on names (λ (y : Stage BesideView). (y >>= listing_stage c) >>= ending) (λ exit. refl)
+    (beside_in c.version c.bound b) (beside_in_end c.version c.bound b) (λ beside. refl))
 
 plain_fits : (names : List (List ℕ)) (c : Contents)
-    → Fits names ((source_lines_of c.version c.bound None >>= listing_stage c) >>= ending)
-unfolding source_lines_of
+    → Fits names ((source_beside c.version c.bound None >>= listing_stage c) >>= ending)
+unfolding source_beside
 plain_fits names c = refl
 
 listing_fits : (names : List (List ℕ)) (from : Option (List ℕ)) (b : List ℕ)
@@ -253,13 +284,25 @@ suited (Some (views.list file (Some from))) =
     let names : List (List ℕ) = file ∷ from ∷ [] in
     list_fits names file (Some from) (first_of_two file from)
     (λ c. lines_fit names c from (second_of_two file from))
-suited (Some (views.goals (named name) file)) =
+suited (Some (views.goals (named name) file None only_missing all)) =
     let names : List (List ℕ) = file ∷ [] in
-    found_fits names (goals_under file) (policy_of name) (goals_fits names file (only file))
-suited (Some (views.goals (from_file name) file)) =
+    found_fits names (goals_under None only_missing all file) (policy_of name)
+    (goals_fits names file None only_missing all (only file) (goals_alone_fits names only_missing all))
+suited (Some (views.goals (named name) file (Some from) only_missing all)) =
+    let names : List (List ℕ) = file ∷ from ∷ [] in
+    found_fits names (goals_under (Some from) only_missing all file) (policy_of name)
+    (goals_fits names file (Some from) only_missing all (first_of_two file from)
+    (λ under b. goals_beside_fits names from only_missing all under b (second_of_two file from)))
+suited (Some (views.goals (from_file name) file None only_missing all)) =
     let names : List (List ℕ) = name ∷ file ∷ [] in
-    told_fits names (goals_under file) name (first_of_two name file)
-    (goals_fits names file (second_of_two name file))
+    told_fits names (goals_under None only_missing all file) name (first_of_two name file)
+    (goals_fits names file None only_missing all (second_of_two name file)
+    (goals_alone_fits names only_missing all))
+suited (Some (views.goals (from_file name) file (Some from) only_missing all)) =
+    let names : List (List ℕ) = name ∷ file ∷ from ∷ [] in
+    told_fits names (goals_under (Some from) only_missing all file) name (first_of_three name file from)
+    (goals_fits names file (Some from) only_missing all (second_of_three name file from)
+    (λ under b. goals_beside_fits names from only_missing all under b (third_of_three name file from)))
 suited (Some (views.packet (named name) file packets k steps)) =
     let names : List (List ℕ) = file ∷ packets ∷ [] in
     found_fits names (policy_stage file packets steps k) (policy_of name)

@@ -34,10 +34,12 @@ use Rattle.prover_class.specs.Parts.{first_not_easy}
 use Rattle.prover_conditions.specs.Conditions.{condition_parts}
 use Rattle.bounds_prover.specs.declared.fault.ProveFlaw.TheVariants.{NotEasy}
 use Rattle.bounds_prover.specs.Proving.{proved_container}
+use Rattle.pcc_asm.specs.Words.{code_bytes}
+use Rattle.view_container.specs.Beside.{BesideView, nothing_beside, notes_beside}
 use Rattle.view_container.specs.Laws.{IsListedSource}
 use Rattle.view_container.specs.Listing.{listing_text}
 use Rattle.view_container.specs.Sources.{source_listing}
-use Rattle.view_goal_text.specs.Lines.{verdict_line}
+use Rattle.view_labels.specs.Labels.{verdict_line}
 use Rattle.view_goal_text.specs.Listing.{goals_text, goals_of_bytes}
 use Rattle.view_trace.specs.Traces.{packet_text}
 use Rattle.view_faults.specs.FormReports.{without_lf, formula_line, form_fault_text}
@@ -59,6 +61,7 @@ use Rattle.pcc_stages.specs.Stages.Common.{refused}
 use Rattle.pcc_stages.specs.Stages.Containers.{code_in}
 use Rattle.pcc_stages.specs.Stages.Policies.{no_policy_spelled}
 use Rattle.pcc_stages.specs.declared.files.TheConstants.{MAX_FILE, MAX_POLICY_FILE}
+use Rattle.view_cli.specs.Commands.Goals.{style_of}
 use Rattle.view_cli.specs.Invocations.{ViewInvocation}
 use Rattle.view_cli.specs.Invocations as views
 use Rattle.view_cli.specs.Texts.{help_text, version_text, formula_too_long_line, view_texts}
@@ -74,29 +77,34 @@ IsToldBy (from_file name) reads policy =
 
 -- ---- `list`
 
--- the lines that the instructions of SOURCE stand in, and its read; none where it isn't given
-abbrev pub AreLinesOf : Option (List ℕ) → Contents → List Event → List ℕ → Type 0
-AreLinesOf None c reads lines = (reads ≡ []) × (lines ≡ [])
-AreLinesOf (Some name) c reads lines =
-    (text : List ℕ) × (s : Source) × (reads ≡ was_read name MAX_SOURCE (whole text) ∷ [])
+-- the lines that the instructions of SOURCE stand in, its code, and its read; none where it isn't
+-- given
+abbrev pub IsBeside : Option (List ℕ) → Contents → List Event → BesideView → Type 0
+IsBeside None c reads beside = (reads ≡ []) × (beside ≡ nothing_beside)
+IsBeside (Some name) c reads beside =
+    (text : List ℕ) × (s : Source) × (code : List Insn)
+    × (reads ≡ was_read name MAX_SOURCE (whole text) ∷ [])
     × SpellsSource (profile_of c.version) (is_some c.bound) text s
-    × (lines ≡ map (λ insn. insn.0) s.insns)
+    × (assembled_code (profile_of c.version) s ≡ Ok code)
+    × (beside.lines ≡ map (λ insn. insn.0) s.insns) × (beside.code ≡ Some (code_bytes code))
 
 -- `list`: FILE was read, and SOURCE behind it where it's given, and the text is the listing of what
 -- FILE holds. Where that is a source, it is assembled into the same code, and into what FILE holds
--- but for lemmas and proof.
+-- but for lemmas and proof. Of SOURCE nothing is noted exactly where its code is FILE's.
 pub record ListsContents (file : List ℕ) (from : Option (List ℕ)) (events : List Event)
     (text : List ℕ) : Type 0 where
   pub bytes : List ℕ
   pub contents : Contents
-  pub lines : List ℕ
+  pub beside : BesideView
   pub later : List Event
   pub reads : events ≡ was_read file MAX_FILE (whole bytes) ∷ later
   pub holds : decoded_container bytes ≡ Ok contents
-  pub beside : AreLinesOf from contents later lines
-  pub listing : text ≡ listing_text contents lines
-  pub assembled : (t : List ℕ) → source_listing contents lines ≡ Ok t
-      → IsListedSource contents lines t
+  pub beside_is : IsBeside from contents later beside
+  pub listing : text ≡ listing_text contents beside
+  pub assembled : (t : List ℕ) → source_listing contents beside ≡ Ok t
+      → IsListedSource contents beside t
+  pub same : (code : List ℕ) → beside.code ≡ Some code
+      → (notes_beside contents.code beside ≡ []) ↔ (contents.code ≡ code)
 
 -- ---- `goals`
 
@@ -105,21 +113,25 @@ abbrev pub first_hard_part : PolicyView → Contents → List Insn → Option �
 first_hard_part policy c code =
     first_not_easy (is_some c.bound) 0 (condition_parts policy c.bound code c.invs)
 
--- `goals`: FILE was read behind the policy, and the text lists the goals of what it holds. The last
--- line names the first part of the condition that isn't easy, which is the one that `prove` names.
-pub record ListsGoals (word : PolicyWord) (file : List ℕ) (events : List Event) (text : List ℕ)
-    : Type 0 where
+-- `goals`: FILE was read behind the policy, and SOURCE behind it where it's given, and the text lists the
+-- goals of what FILE holds, as the flags say. The last line names the first part of the condition that
+-- isn't easy, which is the one that `prove` names, whatever the flags.
+pub record ListsGoals (word : PolicyWord) (file : List ℕ) (from : Option (List ℕ))
+    (only_missing all : Bool) (events : List Event) (text : List ℕ) : Type 0 where
   pub policy : PolicyView
   pub told : List Event
   pub bytes : List ℕ
   pub contents : Contents
   pub code : List Insn
-  pub reads : events ≡ told ++ was_read file MAX_FILE (whole bytes) ∷ []
+  pub beside : BesideView
+  pub later : List Event
+  pub reads : events ≡ told ++ was_read file MAX_FILE (whole bytes) ∷ later
   pub tells : IsToldBy word told policy
-  pub listed : goals_of_bytes policy bytes ≡ Ok text
+  pub beside_is : IsBeside from contents later beside
+  pub listed : goals_of_bytes (style_of only_missing all beside.lines) policy bytes ≡ Ok text
   pub holds : decoded_container bytes ≡ Ok contents
   pub code_is : decoded_code (profile_of contents.version) contents.code ≡ Ok code
-  pub shown : text ≡ goals_text policy contents code
+  pub shown : text ≡ goals_text (style_of only_missing all beside.lines) policy contents code
   pub last : (front : List ℕ)
       × (text ≡ front ++ verdict_line (first_hard_part policy contents code))
   pub proves : (k : ℕ) → first_hard_part policy contents code ≡ Some k
@@ -255,8 +267,8 @@ SaysOfText file Says events exit = SaysOf file MAX_SOURCE source_too_long_line S
 abbrev pub IsShown : ViewInvocation → List Event → Exit → Type 0
 IsShown (views.list file from) events exit =
     exit.status ≡ 0 → ListsContents file from events exit.text
-IsShown (views.goals policy file) events exit =
-    exit.status ≡ 0 → ListsGoals policy file events exit.text
+IsShown (views.goals policy file from only_missing all) events exit =
+    exit.status ≡ 0 → ListsGoals policy file from only_missing all events exit.text
 IsShown (views.packet policy file packets k steps) events exit =
     exit.status ≡ 0 → TracesPacket policy file packets k steps events exit.text
 IsShown (views.formula file p left) events exit = SaysOfText file (SaysOfForm p left) events exit

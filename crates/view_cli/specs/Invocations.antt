@@ -48,6 +48,18 @@ left_file_app name = with_rule (versioned_file_app name) (flag_rule (codes "boun
 abbrev pub formula_app : Text → App
 formula_app name = with_rule (left_file_app name) (flag_rule (codes "policy"))
 
+-- `NAME POLICY FILE [SOURCE]`
+abbrev pub beside_app : Text → App
+beside_app name = with_rule (file_app name) (new_rule (codes "SOURCE"))
+
+-- `NAME POLICY FILE [SOURCE] [--only-missing]`
+abbrev pub missing_app : Text → App
+missing_app name = with_rule (beside_app name) (flag_rule (codes "only-missing"))
+
+-- `NAME POLICY FILE [SOURCE] [--only-missing] [--all]`
+abbrev pub goals_form_app : Text → App
+goals_form_app name = with_rule (missing_app name) (flag_rule (codes "all"))
+
 -- `NAME FILE [--v2] [--bound N]`
 abbrev pub source_app : Text → App
 source_app name = with_rule (versioned_file_app name) bound_rule
@@ -62,7 +74,7 @@ lists_app = with_subcommand bare_view_app (list_app (codes "list")).top
 
 -- with `goals`
 abbrev pub goals_app : App
-goals_app = with_subcommand lists_app (file_app (codes "goals")).top
+goals_app = with_subcommand lists_app (goals_form_app (codes "goals")).top
 
 -- with `packet`
 abbrev pub traces_app : App
@@ -82,8 +94,8 @@ view_app = with_subcommand formulas_app (source_app (codes "source")).top
 pub data ViewInvocation : Type 0 where
   -- `list FILE`, and the source's file where it is given
   list : Text → Option Text → ViewInvocation
-  -- `goals POLICY FILE`
-  goals : PolicyWord → Text → ViewInvocation
+  -- `goals POLICY FILE [SOURCE] [--only-missing] [--all]`, and whether each of the two flags is given
+  goals : PolicyWord → Text → Option Text → Bool → Bool → ViewInvocation
   -- `packet POLICY FILE PACKETS K`, and the steps of its run
   packet : PolicyWord → Text → Text → ℕ → ℕ → ViewInvocation
   -- `formula FILE [--v2] [--bound]`, the profile of its operators, and whether it may name the steps that are left
@@ -107,7 +119,9 @@ policy_word_in rows = policy_word (value_of (codes "POLICY") rows)
 
 -- `goals` of these rows
 abbrev pub goals_invocation : List Row → ViewInvocation
-goals_invocation rows = goals (policy_word_in rows) (value_of (codes "FILE") rows)
+goals_invocation rows =
+    goals (policy_word_in rows) (value_of (codes "FILE") rows) (first_of (codes "SOURCE") rows)
+    (is_given (codes "only-missing") rows) (is_given (codes "all") rows)
 
 -- a packet from 0 to 4,194,304, and steps from 1 to 1,000,000,000
 abbrev pub are_trace_numbers : ℕ → ℕ → Bool

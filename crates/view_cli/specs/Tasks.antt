@@ -20,7 +20,8 @@ use Rattle.view_cli.specs.Commands.Faults.{formula_command, policy_command, sour
 -- what a command comes to
 abbrev pub exit_of_command : ViewInvocation → Stage Exit
 exit_of_command (list file from) = list_command file from
-exit_of_command (goals policy file) = goals_command policy file
+exit_of_command (goals policy file from only_missing all) =
+    goals_command policy file from only_missing all
 exit_of_command (packet policy file packets k steps) = packet_command policy file packets k steps
 exit_of_command (formula file profile left) = formula_command file profile left
 exit_of_command (policy_formulas file) = policy_command file
@@ -37,7 +38,8 @@ policy_files (from_file name) = name ∷ []
 abbrev pub view_files : ViewInvocation → List (List ℕ)
 view_files (list file None) = file ∷ []
 view_files (list file (Some from)) = file ∷ from ∷ []
-view_files (goals policy file) = policy_files policy ++ file ∷ []
+view_files (goals policy file None only_missing all) = policy_files policy ++ file ∷ []
+view_files (goals policy file (Some from) only_missing all) = policy_files policy ++ file ∷ from ∷ []
 view_files (packet policy file packets k steps) = policy_files policy ++ file ∷ packets ∷ []
 view_files (formula file profile left) = file ∷ []
 view_files (policy_formulas file) = file ∷ []
@@ -57,7 +59,7 @@ standing_with (from_file name) = command
 
 -- what a command is
 abbrev pub view_standing : ViewInvocation → Standing
-view_standing (goals policy file) = standing_with policy
+view_standing (goals policy file from only_missing all) = standing_with policy
 view_standing (packet policy file packets k steps) = standing_with policy
 view_standing other = command
 

@@ -9,7 +9,7 @@ view_usage_line = codes "usage: pcc_view list|goals|packet|formula|source\n"
 
 -- the forms of commands, with examples
 unfoldable pub help_text : List ℕ
-help_text = codes "pcc_view shows what pcc judges; it judges nothing.\n\npcc_view list FILE [SOURCE]          the container as a source, beside the lines of SOURCE\npcc_view goals POLICY FILE           the condition's goals, with what is known, and which are easy\npcc_view packet POLICY FILE PACKETS K [--steps N]\n                                     the run on packet K, step by step\npcc_view formula FILE [--v2] [--bound] [--policy]\n                                     where a formula is wrong, or the two of a policy's file\npcc_view source FILE [--v2] [--bound N]\n                                     where a source is wrong, as pcc asm reads it\npcc_view --help, pcc_view --version\n\nPOLICY is filter, tag or table, or @NAME for the policy in the file NAME.\n\npcc_view list examples/port/container examples/port/source.s\npcc_view goals filter examples/port/container\npcc_view packet filter examples/port/container examples/frames/packets 0\n"
+help_text = codes "pcc_view shows what pcc judges; it judges nothing.\n\npcc_view list FILE [SOURCE]          the container as a source, beside the lines of SOURCE\npcc_view goals POLICY FILE [SOURCE] [--only-missing] [--all]\n                                     the condition's goals, with what is known, and which are easy\npcc_view packet POLICY FILE PACKETS K [--steps N]\n                                     the run on packet K, step by step\npcc_view formula FILE [--v2] [--bound] [--policy]\n                                     where a formula is wrong, or the two of a policy's file\npcc_view source FILE [--v2] [--bound N]\n                                     where a source is wrong, as pcc asm reads it\npcc_view --help, pcc_view --version\n\nPOLICY is filter, tag or table, or @NAME for the policy in the file NAME.\n\npcc_view list examples/port/container examples/port/source.s\npcc_view goals filter examples/port/container\npcc_view packet filter examples/port/container examples/frames/packets 0\n"
 
 -- the program's version, and which containers it reads
 unfoldable pub version_text : List ℕ

@@ -12,13 +12,19 @@ pub struct ListArgs<'a> {
     pub source: Option<&'a str>,
 }
 
-/// The arguments of `goals`: `POLICY FILE`.
+/// The arguments of `goals`: `POLICY FILE [SOURCE] [--only-missing] [--all]`.
 #[derive(Clone, Copy, Debug, PartialEq, Eq)]
 pub struct GoalsArgs<'a> {
     /// The policy, by its name or by its file's name.
     pub policy: PolicyWord<'a>,
     /// The name of the container's file.
     pub file: &'a str,
+    /// The name of the source file that the container was assembled from, if it is given.
+    pub source: Option<&'a str>,
+    /// Whether goals that are easy are left out.
+    pub only_missing: bool,
+    /// Whether each goal that isn't easy has hints about all that is missing.
+    pub all: bool,
 }
 
 /// The arguments of `packet`: `POLICY FILE PACKETS K [--steps N]`.

@@ -5,6 +5,7 @@ ghost use Rattle.clap.specs.declared.Command.TheViews.{out-Command as fields_of}
 ghost use Rattle.view_cli.specs.Invocations.{one_file_app, list_app, number_rule, numbered_app};
 ghost use Rattle.view_cli.specs.Invocations.{traced_app, versioned_file_app, source_app};
 ghost use Rattle.view_cli.specs.Invocations.{flag_rule, left_file_app, formula_app};
+ghost use Rattle.view_cli.specs.Invocations.{beside_app, missing_app, goals_form_app};
 ghost use Rattle.view_cli.specs.Invocations.{lists_app, goals_app, traces_app, formulas_app};
 ghost use Rattle.view_cli.specs.Invocations.{view_app};
 
@@ -85,6 +86,30 @@ fn formula_command<'a>(alloc: Global, name: &'a str) -> Result<Command<'a>, Allo
     left_file_command(alloc, name)?.arg(flag(alloc, "policy"))
 }
 
+/// `NAME POLICY FILE [SOURCE]`
+fn beside_command<'a>(alloc: Global, name: &'a str) -> Result<Command<'a>, AllocError>
+    ensures app { IfOk result (λ c. app_of c ≡ beside_app name.entry.now) }
+    ensures local { IfOk result (λ c. (fields_of c).has_globals ≡ false) }
+{
+    file_command(alloc, name)?.arg(Arg::new(alloc, "SOURCE"))
+}
+
+/// `NAME POLICY FILE [SOURCE] [--only-missing]`
+fn missing_command<'a>(alloc: Global, name: &'a str) -> Result<Command<'a>, AllocError>
+    ensures app { IfOk result (λ c. app_of c ≡ missing_app name.entry.now) }
+    ensures local { IfOk result (λ c. (fields_of c).has_globals ≡ false) }
+{
+    beside_command(alloc, name)?.arg(flag(alloc, "only-missing"))
+}
+
+/// `NAME POLICY FILE [SOURCE] [--only-missing] [--all]`
+fn goals_form<'a>(alloc: Global, name: &'a str) -> Result<Command<'a>, AllocError>
+    ensures app { IfOk result (λ c. app_of c ≡ goals_form_app name.entry.now) }
+    ensures local { IfOk result (λ c. (fields_of c).has_globals ≡ false) }
+{
+    missing_command(alloc, name)?.arg(flag(alloc, "all"))
+}
+
 /// `NAME FILE [--v2] [--bound N]`
 fn source_command<'a>(alloc: Global, name: &'a str) -> Result<Command<'a>, AllocError>
     ensures app { IfOk result (λ c. app_of c ≡ source_app name.entry.now) }
@@ -107,7 +132,7 @@ fn lists_command<'a>(alloc: Global) -> Result<Command<'a>, AllocError>
 fn goals_command<'a>(alloc: Global) -> Result<Command<'a>, AllocError>
     ensures app { IfOk result (λ c. app_of c ≡ goals_app) }
 {
-    let added = file_command(alloc, "goals")?;
+    let added = goals_form(alloc, "goals")?;
     lists_command(alloc)?.subcommand(added)
 }
 

@@ -26,7 +26,8 @@ pub fn print_help<S: Sink>(out: &mut S) -> Put
         \n\
         pcc_view list FILE [SOURCE]          the container as a source, \
         beside the lines of SOURCE\n\
-        pcc_view goals POLICY FILE           the condition's goals, \
+        pcc_view goals POLICY FILE [SOURCE] [--only-missing] [--all]\n\
+        \x20                                    the condition's goals, \
         with what is known, and which are easy\n\
         pcc_view packet POLICY FILE PACKETS K [--steps N]\n\
         \x20                                    the run on packet K, step by step\n\

@@ -35,10 +35,22 @@ fn goals_args_given<'a>(matches: &ArgMatches<'a>) -> GoalsArgs<'a>
     ensures policy { word_view result.policy ≡ policy_word (value_of (codes "POLICY") (rows_of
         (found_of matches.now))) }
     ensures file { result.file.now ≡ value_of (codes "FILE") (rows_of (found_of matches.now)) }
+    ensures source { option_map (λ s. s.now) result.source
+        ≡ first_of (codes "SOURCE") (rows_of (found_of matches.now)) }
+    ensures only_missing { result.only_missing
+        ≡ is_given (codes "only-missing") (rows_of (found_of matches.now)) }
+    ensures all { result.all ≡ is_given (codes "all") (rows_of (found_of matches.now)) }
 {
     let policy = policy_told(text_given(matches, "POLICY"));
     let file = text_given(matches, "FILE");
-    GoalsArgs { policy, file }
+    let source = matches.get_str("SOURCE");
+    GoalsArgs {
+        policy,
+        file,
+        source,
+        only_missing: flag_given(matches, "only-missing"),
+        all: flag_given(matches, "all"),
+    }
 }
 
 /// The arguments of `packet`.

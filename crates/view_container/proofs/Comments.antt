@@ -1,7 +1,9 @@
 -- What is printed beside code can stand in comments.
-use Rattle.std.proofs.Common.{◌≡◌, ℕ, zero, suc, ◌+◌, ◌*◌, ◌/◌, ◌%◌, ◌^◌, ◌<◌, ◌≤◌, Bool, true, List, [], ◌∷◌, ◌++◌, length, length-append, map, get_or, Option}
+use Rattle.std.proofs.Common.{◌≡◌, ℕ, zero, suc, ◌+◌, ◌*◌, ◌/◌, ◌%◌, ◌^◌, ◌<◌, ◌≤◌, Bool}
+use Rattle.std.proofs.Common.{true, false, cond, List, [], ◌∷◌, ◌++◌, length, length-append, map, get_or, Option}
 use Rattle.std.proofs.Common.{Some, None, refl, ap, arith}
-use Rattle.std.specs.Prelude.{codes, decimal, slice_get, slice_index}
+use Rattle.std.specs.Prelude.{codes, decimal, slice_get, slice_index, ◌==◌, option_and_then}
+use Rattle.std.specs.Str.{bytes_eq}
 use Rattle.std.specs.List.{AllByRecursion, list_all, range_with_len}
 use Rattle.std.specs.Int.{w32, byte_at, bytes_high_first, to_be_bytes}
 use Rattle.std.proofs.lemmas.Bool.{and_parts, and_from}
@@ -22,9 +24,11 @@ use Rattle.proof_container.specs.Postorder.{entries}
 use Rattle.proof_container.specs.Encoding.{IsContents}
 use Rattle.asm_print.specs.Laws.{IsComment, AreSpellableExtras}
 use Rattle.asm_print.proofs.Characters.{printable-append, clean_printable, decimal_clean, decimal_short}
-use Rattle.view_container.specs.Words.{indexed_word, line_part, word_comment, word_hint}
+use Rattle.view_entries.specs.SourceLines.{source_place}
+use Rattle.view_container.specs.Words.{indexed_word, word_comment, word_hint}
 use Rattle.view_container.specs.Notes.{named_policy, version_note, bound_notes, counts_note, measures_text, proof_note, lemma_notes, notes_of}
 use Rattle.view_container.specs.Sources.{extras_of}
+use Rattle.view_container.specs.Beside.{BesideView, common_front, first_other, difference_notes, notes_beside}
 use Rattle.view_container.specs.Laws.{AreLineNumbers}
 
 -- ---- parts of comments
@@ -98,7 +102,7 @@ word_hex w = hex_part 8 (to_be_bytes w32 w) (bytes-high 4 w) (omega (arith, leng
 
 -- ---- comments of words
 
-line : (o : Option ℕ) → ((n : ℕ) → o ≡ Some n → n < 2 ^ 32) → IsPart 26 (line_part o)
+line : (o : Option ℕ) → ((n : ℕ) → o ≡ Some n → n < 2 ^ 32) → IsPart 26 (source_place o)
 line None h = record { printable = refl; short = omega arith }
 line (Some n) h =
     let small : n < 2 ^ 32 = h n refl in
@@ -113,7 +117,7 @@ word_is code lines i h numbers =
     let word = joined 20 9 (decimal i) (32 ∷ hex) (number i h)
     (joined 1 8 blank hex (said 1 blank refl refl) (word_hex (code_word_at code i))) in
     comment 55 _ (omega arith)
-    (joined 29 26 (indexed_word code i) (line_part (slice_get lines i)) word
+    (joined 29 26 (indexed_word code i) (source_place (slice_get lines i)) word
     (line (slice_get lines i) (numbers i)))
 
 -- ---- lists
@@ -218,14 +222,53 @@ notes c h =
       ),
     )
 
+-- ---- a source beside
+
+common-within : (code other : List ℕ) → common_front code other ≤ length code
+common-within [] other = omega arith
+common-within (b ∷ code) [] = omega arith
+common-within (b ∷ code) (d ∷ other) = go (b == d) (common-within code other) where
+  go : (t : Bool) → common_front code other ≤ length code
+      → cond t (suc (common_front code other)) 0 ≤ suc (length code)
+  go true rest = omega (arith, rest)
+  go false rest = omega arith
+
+difference : (lines : List ℕ) (i : ℕ) → i < 2 ^ 64 → AreLineNumbers lines
+    → AllByRecursion IsComment (difference_notes lines (Some i))
+difference lines i h numbers = (
+  comment 72 _ (omega arith)
+      (joined 26 46 (codes "SOURCE differs from index ") _
+      (said 26 (codes "SOURCE differs from index ") refl refl)
+      (joined 20 26 (decimal i) (source_place (slice_get lines i)) (number i h)
+      (line (slice_get lines i) (numbers i)))),
+  tt,
+)
+
+-- what is noted of a source can stand in comments
+beside_notes : (code : List ℕ) (beside : BesideView) → length code ≤ 4096
+    → AreLineNumbers beside.lines → AllByRecursion IsComment (notes_beside code beside)
+beside_notes code beside short numbers = of_code beside.code where
+  of_test : (other : List ℕ) (t : Bool) → AllByRecursion IsComment
+      (difference_notes beside.lines (cond t None (Some (common_front code other / 4))))
+  of_test other true = tt
+  of_test other false =
+      let within = common-within code other in
+      difference beside.lines (common_front code other / 4) (omega (arith, within, short)) numbers
+
+  of_code : (o : Option (List ℕ)) → AllByRecursion IsComment
+      (difference_notes beside.lines (option_and_then (first_other code) o))
+  of_code None = tt
+  of_code (Some other) = of_test other (bytes_eq code other)
+
 -- ---- all
 
-pub spellable_extras : (c : Contents) (lines : List ℕ) → IsContents c → AreLineNumbers lines
-    → AreSpellableExtras (extras_of c lines)
-spellable_extras c lines h numbers =
+pub spellable_extras : (c : Contents) (beside : BesideView) → IsContents c
+    → AreLineNumbers beside.lines → AreSpellableExtras (extras_of c beside)
+spellable_extras c beside h numbers =
     let words : length c.code / 4 ≤ 1024 = omega (arith, h.short) in record {
-      comments = each IsComment (word_comment c.code lines) 0 (length c.code / 4)
-          (λ i lt. word_is c.code lines i (omega arith) numbers);
+      comments = each IsComment (word_comment c.code beside.lines) 0 (length c.code / 4)
+          (λ i lt. word_is c.code beside.lines i (omega arith) numbers);
       hints = each (λ n. n ≤ 16383) (word_hint c.code) 0 (length c.code / 4) (λ i lt. omega arith);
-      notes = notes c h;
+      notes = both IsComment (notes_of c) (notes_beside c.code beside) (notes c h)
+          (beside_notes c.code beside (omega (arith, h.short)) numbers);
     }

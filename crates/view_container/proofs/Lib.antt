@@ -8,3 +8,4 @@ pub mod Listed
 pub mod Found
 pub mod Assembled
 pub mod WrittenWords
+pub mod Differences

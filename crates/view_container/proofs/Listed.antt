@@ -44,6 +44,7 @@ use Rattle.pcc_gate.proofs.CodeBytes.{code_decided}
 use Rattle.asm_print.specs.Laws.{IsInvOf, IsSpellableCode}
 use Rattle.asm_print.specs.Listing.{code_text}
 use Rattle.view_container.specs.declared.stop.NoSource.{NoSource}
+use Rattle.view_container.specs.Beside.{BesideView}
 use Rattle.view_container.specs.Sources.{extras_of, unless, if_code, listed_code, if_low, is_short, if_forms, if_short, source_listing}
 use Rattle.view_container.proofs.Shorts.{none-bound}
 use Rattle.view_container.proofs.Stages.{are-forms}
@@ -69,17 +70,17 @@ not-false true e = refl
 not-false false e = absurd cc
 
 -- the contents are code, and their invariants formulas with short texts, and this is their source
-pub record IsShown (c : Contents) (lines text : List ℕ) : Type 0 where
+pub record IsShown (c : Contents) (beside : BesideView) (text : List ℕ) : Type 0 where
   pub code : List Insn
   pub read : decoded_code (profile_of c.version) c.code ≡ Ok code
   pub code_is : listed_code c ≡ Ok code
   pub forms : AreForms (signature_of c.version) c.bound c.invs
   pub short : list_all is_short (formulas c.invs) ≡ true
-  pub text_is : code_text (extras_of c lines) code (formulas c.invs) ≡ text
+  pub text_is : code_text (extras_of c beside) code (formulas c.invs) ≡ text
 
-pub shown : (c : Contents) (lines text : List ℕ) → source_listing c lines ≡ Ok text
-    → IsShown c lines text
-shown c lines text e =
+pub shown : (c : Contents) (beside : BesideView) (text : List ℕ) → source_listing c beside ≡ Ok text
+    → IsShown c beside text
+shown c beside text e =
     let s = signature_of c.version in
     let one = first-ok (listed_code c) _ text e in
     let two = first-ok (if_low (roots c)) _ text one.2 in
@@ -92,7 +93,7 @@ shown c lines text e =
       code_is = one.1;
       forms = are-forms s c.bound c.invs three.1;
       short = not-false (list_all is_short (formulas c.invs)) short.0;
-      text_is = ap (λ invs. code_text (extras_of c lines) one.0 invs) short.1 ∙ whole.1;
+      text_is = ap (λ invs. code_text (extras_of c beside) one.0 invs) short.1 ∙ whole.1;
     }
 
 -- ---- code

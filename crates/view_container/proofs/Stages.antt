@@ -19,6 +19,7 @@ use Rattle.view_container.specs.declared.stop.Stop.TheVariants as stop
 use Rattle.view_container.specs.declared.stop.ListFault.{ListFault}
 use Rattle.view_container.specs.declared.stop.ListFault.TheVariants as fault
 use Rattle.view_container.specs.Sources.{extras_of, unless, listed_code, if_low, if_forms, if_short, if_whole, source_listing}
+use Rattle.view_container.specs.Beside.{BesideView}
 use Rattle.view_container.specs.Plain.{plain_text}
 use Rattle.view_container.specs.Listing.{source_or_comments, listing_text, contents_read, comments_in, listing_of}
 use Rattle.view_container.specs.Answers.{IsTold, IsReason, Finds}
@@ -36,19 +37,19 @@ pub are-forms : (s : WordSignature) (bound : Option ℕ) (invs : List (ℕ × Tr
 are-forms s bound invs e = none_forms s bound invs 0 (no-formless (formless s bound 0 invs) e)
 
 -- what is left where the contents are code, low, and formulas
-abbrev pub rest_of : Contents → List ℕ → List Insn → Result (List ℕ) NoSource
-rest_of c lines code =
-    if_short (formulas c.invs) >>= λ invs. if_whole (code_text (extras_of c lines) code invs)
+abbrev pub rest_of : Contents → BesideView → List Insn → Result (List ℕ) NoSource
+rest_of c beside code =
+    if_short (formulas c.invs) >>= λ invs. if_whole (code_text (extras_of c beside) code invs)
 
-pub source-rest : (c : Contents) (lines : List ℕ) (code : List Insn) → listed_code c ≡ Ok code
+pub source-rest : (c : Contents) (beside : BesideView) (code : List Insn) → listed_code c ≡ Ok code
     → if_low (roots c) ≡ Ok tt → if_forms (signature_of c.version) c.bound c.invs ≡ Ok tt
-    → source_listing c lines ≡ rest_of c lines code
-source-rest c lines code is low forms =
+    → source_listing c beside ≡ rest_of c beside code
+source-rest c beside code is low forms =
     ap (λ r. r >>= λ code. if_low (roots c) >>= λ _.
-    if_forms (signature_of c.version) c.bound c.invs >>= λ _. rest_of c lines code) is
+    if_forms (signature_of c.version) c.bound c.invs >>= λ _. rest_of c beside code) is
     ∙ ap (λ r. r >>= λ _.
-    if_forms (signature_of c.version) c.bound c.invs >>= λ _. rest_of c lines code) low
-    ∙ ap (λ r. r >>= λ _. rest_of c lines code) forms
+    if_forms (signature_of c.version) c.bound c.invs >>= λ _. rest_of c beside code) low
+    ∙ ap (λ r. r >>= λ _. rest_of c beside code) forms
 
 -- a reason stays the first where more would follow
 pub reason-first : {A B : Type 0} (r : Result A NoSource) (f : A → Result B NoSource) (e : Stop)
@@ -65,27 +66,27 @@ carried view said e h (Err y) k = subst (λ z. IsReason said z) (sym k) h
 
 -- ---- a listing
 
-pub told-fault : (bytes lines : List ℕ) (e : ListFault) → IsTold (contents_read bytes) e
-    → IsTold (listing_of bytes lines) e
+pub told-fault : (bytes : List ℕ) (beside : BesideView) (e : ListFault) → IsTold (contents_read bytes) e
+    → IsTold (listing_of bytes beside) e
 unfolding listing_of
-told-fault bytes lines (fault.TooLong length) h = ap (λ r. r >>= λ c. Ok (listing_text c lines)) h
-told-fault bytes lines (fault.Malformed offset flaw) h =
-    ap (λ r. r >>= λ c. Ok (listing_text c lines)) h
-told-fault bytes lines fault.Memory h = tt
-told-fault bytes lines fault.Results h = tt
+told-fault bytes beside (fault.TooLong length) h = ap (λ r. r >>= λ c. Ok (listing_text c beside)) h
+told-fault bytes beside (fault.Malformed offset flaw) h =
+    ap (λ r. r >>= λ c. Ok (listing_text c beside)) h
+told-fault bytes beside fault.Memory h = tt
+told-fault bytes beside fault.Results h = tt
 
-pub told-source : (bytes lines : List ℕ) (c : Contents) (text : List ℕ)
-    → contents_read bytes ≡ Ok c → source_listing c lines ≡ Ok text
-    → listing_of bytes lines ≡ Ok text
+pub told-source : (bytes : List ℕ) (beside : BesideView) (c : Contents) (text : List ℕ)
+    → contents_read bytes ≡ Ok c → source_listing c beside ≡ Ok text
+    → listing_of bytes beside ≡ Ok text
 unfolding listing_of
-told-source bytes lines c text read is =
-    ap (λ r. r >>= λ d. Ok (listing_text d lines)) read ∙ ap (λ s. Ok (source_or_comments c s)) is
+told-source bytes beside c text read is =
+    ap (λ r. r >>= λ d. Ok (listing_text d beside)) read ∙ ap (λ s. Ok (source_or_comments c s)) is
 
-pub told-comments : (bytes lines : List ℕ) (c : Contents) (why : NoSource)
-    → contents_read bytes ≡ Ok c → source_listing c lines ≡ Err why
-    → listing_of bytes lines ≡ comments_in bytes why
+pub told-comments : (bytes : List ℕ) (beside : BesideView) (c : Contents) (why : NoSource)
+    → contents_read bytes ≡ Ok c → source_listing c beside ≡ Err why
+    → listing_of bytes beside ≡ comments_in bytes why
 unfolding listing_of
-told-comments bytes lines c why read is =
-    ap (λ r. r >>= λ d. Ok (listing_text d lines)) read
+told-comments bytes beside c why read is =
+    ap (λ r. r >>= λ d. Ok (listing_text d beside)) read
     ∙ ap (λ s. Ok (source_or_comments c s)) is
     ∙ sym (ap (λ r. r >>= λ d. Ok (plain_text d why)) read)

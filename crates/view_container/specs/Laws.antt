@@ -6,6 +6,7 @@ use Rattle.asm_text.specs.Sources.{Source, SpellsSource}
 use Rattle.proof_container.specs.Versions.{profile_of}
 use Rattle.proof_container.specs.Contents.{Contents}
 use Rattle.pcc_asm.specs.Assembling.{head_for, assembled_code, assembled_contents}
+use Rattle.view_container.specs.Beside.{BesideView}
 use Rattle.view_container.specs.Containers.{HasWrittenReturns, without_proofs}
 use Rattle.view_container.specs.Sources.{listed_code}
 use Rattle.view_container.specs.Listing.{listing_text}
@@ -18,8 +19,8 @@ AreLineNumbers lines = (i n : ℕ) → slice_get lines i ≡ Some n → n < 2 ^ 
 -- and with the steps that are left where they have a bound. That source is assembled into their
 -- code, and for each policy that they name into what they hold but for lemmas and proof, where the
 -- code's returns have the hint that is written.
-pub record IsListedSource (c : Contents) (lines text : List ℕ) : Type 0 where
-  pub listed : listing_text c lines ≡ text
+pub record IsListedSource (c : Contents) (beside : BesideView) (text : List ℕ) : Type 0 where
+  pub listed : listing_text c beside ≡ text
   pub source : Source
   pub spells :
       (s : Source) → SpellsSource (profile_of c.version) (is_some c.bound) text s ↔ (s ≡ source)

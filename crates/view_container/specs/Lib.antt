@@ -3,6 +3,8 @@ pub mod Sources
 pub mod Plain
 pub mod Notes
 pub mod Words
+pub mod Beside
+pub mod Views
 pub mod Laws
 pub mod Answers
 pub mod Shortages

@@ -9,15 +9,16 @@ use Rattle.view_container.specs.declared.stop.ListFault.{ListFault}
 use Rattle.view_container.specs.declared.stop.ListFault.TheVariants.{TooLong, Malformed}
 use Rattle.view_container.specs.Sources.{source_listing}
 use Rattle.view_container.specs.Plain.{plain_text}
+use Rattle.view_container.specs.Beside.{BesideView}
 
 -- a source, or the contents in comments
 abbrev pub source_or_comments : Contents → Result (List ℕ) NoSource → List ℕ
 source_or_comments c (Ok text) = text
 source_or_comments c (Err why) = plain_text c why
 
--- the contents as a source, whose comments name these lines of another, or else in comments
-abbrev pub listing_text : Contents → List ℕ → List ℕ
-listing_text c lines = source_or_comments c (source_listing c lines)
+-- the contents as a source, whose comments name the lines of another, or else in comments
+abbrev pub listing_text : Contents → BesideView → List ℕ
+listing_text c beside = source_or_comments c (source_listing c beside)
 
 -- what bytes hold, where they aren't too many for a container
 abbrev pub contents_read : List ℕ → Result Contents ListFault
@@ -30,7 +31,7 @@ comments_in bytes why = do
   Ok (plain_text c why)
 
 -- the listing of the container in the bytes
-unfoldable pub listing_of : List ℕ → List ℕ → Result (List ℕ) ListFault
-listing_of bytes lines = do
+unfoldable pub listing_of : List ℕ → BesideView → Result (List ℕ) ListFault
+listing_of bytes beside = do
   c ← contents_read bytes
-  Ok (listing_text c lines)
+  Ok (listing_text c beside)

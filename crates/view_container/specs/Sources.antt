@@ -1,5 +1,5 @@
 -- A container as a source that is assembled into it, or the first reason why it isn't one.
-use Rattle.std.specs.Prelude.{ℕ, nat_le, nat_lt, is_some, not, Bool, if◌then◌else◌, List, length, map, Option, Result, Ok, Err}
+use Rattle.std.specs.Prelude.{ℕ, nat_le, nat_lt, is_some, not, Bool, if◌then◌else◌, List, ◌++◌, length, map, Option, Result, Ok, Err}
 use Rattle.std.specs.List.{list_all}
 use Rattle.alpha_words.specs.declared.insn.Insn.{Insn}
 use Rattle.alpha_cfg.specs.declared.fault.CodeFlaw.{CodeFlaw}
@@ -19,6 +19,7 @@ use Rattle.view_container.specs.declared.stop.NoSource.{NoSource}
 use Rattle.view_container.specs.declared.stop.NoSource.TheVariants.{NotCode, TooHigh, NotForm, LongInv, LongText}
 use Rattle.view_container.specs.Words.{indices_of, word_comment, word_hint}
 use Rattle.view_container.specs.Notes.{notes_of}
+use Rattle.view_container.specs.Beside.{BesideView, notes_beside}
 
 -- what is printed beside code and invariants: a comment and a hint for each word, and the notes
 abbrev pub extras_with : List ℕ → List ℕ → List (List ℕ) → ExtrasView
@@ -28,9 +29,9 @@ extras_with code lines notes = record {
   notes = notes;
 }
 
--- the same of contents
-abbrev pub extras_of : Contents → List ℕ → ExtrasView
-extras_of c lines = extras_with c.code lines (notes_of c)
+-- the same of contents, and what is noted of a source beside them
+abbrev pub extras_of : Contents → BesideView → ExtrasView
+extras_of c beside = extras_with c.code beside.lines (notes_of c ++ notes_beside c.code beside)
 
 -- a value, unless a test says why there is none
 abbrev pub unless : {A : Type 0} → Bool → NoSource → A → Result A NoSource
@@ -65,11 +66,11 @@ if_short forms = unless (not (list_all is_short forms)) LongInv forms
 abbrev pub if_whole : List ℕ → Result (List ℕ) NoSource
 if_whole text = unless (nat_lt MAX_SOURCE (length text)) LongText text
 
--- the contents as a source, whose comments name these lines of another
-abbrev pub source_listing : Contents → List ℕ → Result (List ℕ) NoSource
-source_listing c lines = do
+-- the contents as a source, whose comments name the lines of another
+abbrev pub source_listing : Contents → BesideView → Result (List ℕ) NoSource
+source_listing c beside = do
   code ← listed_code c
   _ ← if_low (roots c)
   _ ← if_forms (signature_of c.version) c.bound c.invs
   invs ← if_short (formulas c.invs)
-  if_whole (code_text (extras_of c lines) code invs)
+  if_whole (code_text (extras_of c beside) code invs)

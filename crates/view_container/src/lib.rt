@@ -15,6 +15,7 @@
 //! defines when a term is too high or isn't a formula.
 #![tactic(auto)]
 
+mod beside;
 mod forms;
 mod judging;
 mod listing;
@@ -25,6 +26,7 @@ mod summary;
 mod theorems;
 mod words;
 
+pub use beside::Beside;
 pub use listing::list;
 pub use stop::{ListFault, NoSource};
 pub use theorems::{assembly_laws, laws};

@@ -9,12 +9,13 @@ ghost use Rattle.asm_print.specs.Views.{invs_view};
 ghost use Rattle.view_container.specs.Sources.{extras_with, if_whole, source_listing};
 ghost use Rattle.view_container.specs.Listing.{contents_read, comments_in, listing_of};
 ghost use Rattle.view_container.specs.Answers.{Reports, Finds};
+ghost use Rattle.view_container.specs.Views.{beside_view};
 
+use crate::beside::{Beside, all_notes};
 use crate::forms::short_forms;
 use crate::judging::{code_in, formed, low};
 use crate::plain::in_comments;
 use crate::stop::{ListFault, NoSource, Stop};
-use crate::summary::notes;
 use crate::words::{comments, hints};
 use alpha_words::Insn;
 use asm_print::{Extras, print_source};
@@ -69,15 +70,16 @@ fn printed(
 }
 
 /// The container as a source.
-fn source_of(alloc: Global, container: Container<'_>, lines: &[u32]) -> Result<Vec<u8>, Stop>
+fn source_of(alloc: Global, container: Container<'_>, beside: Beside<'_>) -> Result<Vec<u8>, Stop>
     requires contents { IsContents (contents_of container) }
     requires canonical { IsCanonical container }
-    ensures { Finds (λ v. v.items) (source_listing (contents_of container.entry) lines.now) result }
+    ensures { Finds (λ v. v.items) (source_listing (contents_of container.entry)
+        (beside_view beside.entry)) result }
 {
     let mut container = container;
     let code = code_in(alloc, &container)?;
     low(&container)?;
-    let notes = notes(alloc, &container)?;
+    let notes = all_notes(alloc, &container, beside)?;
     let signature = signature_of(container.version);
     let held = &mut container;
     formed(alloc, &mut held.table, signature, held.bound, &held.invs)?;
@@ -90,7 +92,7 @@ fn source_of(alloc: Global, container: Container<'_>, lines: &[u32]) -> Result<V
         &sizes,
         &held.invs,
     )?;
-    printed(alloc, held.code, lines, code.insns(), &invs, &notes)
+    printed(alloc, held.code, beside.lines, code.insns(), &invs, &notes)
 }
 
 /// Returns the container in the bytes as comments, and why it isn't shown as a source.
@@ -108,18 +110,20 @@ fn comments_of(alloc: Global, bytes: &[u8], why: NoSource) -> Result<Vec<u8>, Li
 /// The listing is a source with the container's code and invariants if the code bytes are code, no
 /// term is higher than `vcgen::MAX_HEIGHT`, each invariant is a formula of the version's signature,
 /// and no text is too long for a source. Each instruction's comment is its index, its word and, if
-/// `lines` has so many members, a line number of another source; notes after the code list the
-/// rest. Otherwise all lines are comments: each word as an instruction, and the entries that the
-/// invariants are made of; the last line says why the listing isn't a source.
+/// the source `beside` has so many instructions, their line in it; notes after the code list the
+/// rest, and last from which index on that source's code is other code. Otherwise all lines are
+/// comments: each word as an instruction, and the entries that the invariants are made of; the last
+/// line says why the listing isn't a source.
 ///
 /// Errors: `TooLong` and `Malformed` exactly if `bytes` aren't a container. `Memory`, and `Results`
 /// past `lf_check::MOST_RESULTS` judgements of the invariants, say nothing about `bytes`.
-pub fn list(alloc: Global, bytes: &[u8], lines: &[u32]) -> Result<Vec<u8>, ListFault>
-    ensures exact { Reports (λ v. v.items) (listing_of bytes.now lines.now) result }
+pub fn list(alloc: Global, bytes: &[u8], beside: Beside<'_>) -> Result<Vec<u8>, ListFault>
+    ensures exact { Reports (λ v. v.items)
+        (listing_of bytes.now (beside_view beside.entry)) result }
 {
     match container_in(alloc, bytes) {
         Err(fault) => Err(fault),
-        Ok(container) => match source_of(alloc, container, lines) {
+        Ok(container) => match source_of(alloc, container, beside) {
             Ok(text) => Ok(text),
             Err(Stop::Not(why)) => comments_of(alloc, bytes, why),
             Err(Stop::Memory) => Err(ListFault::Memory),

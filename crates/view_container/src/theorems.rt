@@ -1,10 +1,11 @@
 //! Theorems about the definitions; nothing here runs.
 
-ghost use Rattle.std.specs.Prelude.{◌≡◌, ℕ, List, Ok, ◌↔◌, Bool, Option, is_some};
+ghost use Rattle.std.specs.Prelude.{◌≡◌, ℕ, List, Ok, None, ◌↔◌, Bool, Option, is_some};
 ghost use Rattle.proof_container.specs.Contents.{Contents};
 ghost use Rattle.proof_container.specs.Encoding.{IsContents};
 ghost use Rattle.view_container.specs.Sources.{source_listing};
 ghost use Rattle.view_container.specs.Laws.{AreLineNumbers, IsListedSource};
+ghost use Rattle.view_container.specs.Beside.{BesideView, first_other};
 ghost use Rattle.word_ops.specs.declared.Profile.{Profile};
 ghost use Rattle.alpha_words.specs.declared.insn.Insn.{Insn};
 ghost use Rattle.formula_tree.specs.Formulas.{Form};
@@ -22,10 +23,13 @@ ghost use Rattle.view_container.specs.Containers.{HoldsCode, HasWrittenReturns, 
 /// States what a listing that is a source assembles into. If the contents of a container have a
 /// source listing, its text parses as exactly one source. That source assembles into the
 /// container's code and, for each policy that the contents name, into the contents without lemmas
-/// and proof, if each return has the hint that the assembler writes.
+/// and proof, if each return has the hint that the assembler writes. No difference from a source's
+/// code is noted exactly if that is the container's code.
 pub fn laws()
-    ensures source { (c : Contents) (lines text : List ℕ) → IsContents c → AreLineNumbers lines
-        → source_listing c lines ≡ Ok text → IsListedSource c lines text }
+    ensures source { (c : Contents) (beside : BesideView) (text : List ℕ) → IsContents c
+        → AreLineNumbers beside.lines → source_listing c beside ≡ Ok text
+        → IsListedSource c beside text }
+    ensures same { (code other : List ℕ) → (first_other code other ≡ None) ↔ (code ≡ other) }
 {
     crate::assembly_laws();
 }

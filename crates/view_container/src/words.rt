@@ -6,7 +6,7 @@ ghost use Rattle.view_container.specs.Words.{indices_of, indexed_word, word_comm
 
 use crate::push::push_hex;
 use std::alloc::{AllocError, Global};
-use view_entries::push_number;
+use view_entries::{push_number, push_source_line};
 
 /// Returns the instruction word at index `i` of the code's bytes.
 pub fn word_at(code: &[u8], i: usize) -> u32
@@ -34,10 +34,7 @@ fn comment(alloc: Global, code: &[u8], lines: &[u32], i: usize) -> Result<Vec<u8
 {
     let mut out = Vec::new(alloc);
     push_word(alloc, &mut out, code, i)?;
-    if let Some(line) = lines.get(i) {
-        out.extend_from_slice(b" line ")?;
-        push_number(&mut out, u64::from(*line))?;
-    }
+    push_source_line(&mut out, lines, i)?;
     Ok(out)
 }
 

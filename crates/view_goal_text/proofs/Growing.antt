@@ -1,27 +1,25 @@
 -- What rows and parts show stays as the table grows.
-use Rattle.std.proofs.Common.{◌≡◌, ℕ, List, [], ◌∷◌, map, drop, get_or, refl, sym, ◌∙◌, subst, ◌+◌, arith}
+use Rattle.std.proofs.Common.{◌≡◌, ℕ, List, [], ◌∷◌, map, drop, get_or, refl, sym, subst, ◌+◌, arith}
 use Rattle.std.specs.Prelude.{All}
 use Rattle.std.proofs.lemmas.List.{get_or-drop, length-drop}
 use Rattle.std.proofs.lemmas.List.Elements.{All-head, All-tail}
 use Rattle.term_table.specs.Table.{TableView, IsKnown, Extends}
+use Rattle.view_lines.proofs.Adding.{id-known}
 use Rattle.view_goals.specs.declared.rows.Row.{Row}
 use Rattle.view_goals.specs.declared.rows.Row.TheVariants as row
 use Rattle.view_goals.specs.declared.rows.PartRows.{PartRows}
 use Rattle.view_goals.specs.Rows.{GoalRow, UnderRow, row_view, HasKnownId, part_view, HasKnownIds}
 
 module _ (t u : TableView) (grown : Extends t u) where
-  pub id-known : (id : ℕ) → IsKnown t id → IsKnown u id
-  id-known id h = omega (arith, grown.longer, h)
-
   pub row-more : (r : Row) → HasKnownId t r → row_view u r ≡ row_view t r
   row-more (row.Goal i w A d) h = λ k. GoalRow i w (grown.same A h k) d
   row-more row.Both h = refl
   row-more (row.Under i taken A d) h = λ k. UnderRow i taken (grown.same A h k) d
 
   pub row-known : (r : Row) → HasKnownId t r → HasKnownId u r
-  row-known (row.Goal i w A d) h = id-known A h
+  row-known (row.Goal i w A d) h = id-known t u grown A h
   row-known row.Both h = tt
-  row-known (row.Under i taken A d) h = id-known A h
+  row-known (row.Under i taken A d) h = id-known t u grown A h
 
   pub rows-more : (rows : List Row) → All (HasKnownId t) rows
       → map (row_view u) rows ≡ map (row_view t) rows
@@ -39,7 +37,7 @@ module _ (t u : TableView) (grown : Extends t u) where
       λ k. record { at = p.at; formula = formula k; known = known k; rows = rows k }
 
   pub part-known : (p : PartRows) → HasKnownIds t p → HasKnownIds u p
-  part-known p h = (id-known p.formula h.0, id-known p.known h.1, λ k d lt. row-known (get_or p.rows.items k d) (h.2 k d lt))
+  part-known p h = (id-known t u grown p.formula h.0, id-known t u grown p.known h.1, λ k d lt. row-known (get_or p.rows.items k d) (h.2 k d lt))
 
   pub parts-more : (parts : List PartRows) → All (HasKnownIds t) parts
       → map (part_view u) parts ≡ map (part_view t) parts
@@ -51,13 +49,6 @@ module _ (t u : TableView) (grown : Extends t u) where
 
   pub parts-known : (parts : List PartRows) → All (HasKnownIds t) parts → All (HasKnownIds u) parts
   parts-known parts h = λ k d lt. part-known (get_or parts k d) (h k d lt)
-
-pub grown-twice : (t u v : TableView) → Extends t u → Extends u v → Extends t v
-grown-twice t u v g h = record {
-  longer = omega (arith, g.longer, h.longer);
-  same = λ id k. h.same id (id-known t u g id k) ∙ g.same id k;
-  places = h.places ∙ g.places;
-}
 
 -- of later parts, too
 pub parts-behind : (t : TableView) (n : ℕ) (parts : List PartRows) → All (HasKnownIds t) parts

@@ -1,12 +1,6 @@
 pub mod Growing
-pub mod Adding
-pub mod Copying
-pub mod ShownTexts
 pub mod FormTerms
 pub mod HintLines
 pub mod RowLines
 pub mod PartLists
-pub mod Nodes
-pub mod LabelTexts
-pub mod Encoded
 pub mod Answering

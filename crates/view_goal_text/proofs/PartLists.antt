@@ -16,12 +16,13 @@ use Rattle.view_goals.specs.Goals.{PartGoals, entry_goals, inv_goals}
 use Rattle.view_goals.specs.Rows.{PartRowsView, part_view, shown_part, shown_parts, IsCodeOf}
 use Rattle.view_goals.specs.Laws.{IsEntryPart, AreInvParts}
 use Rattle.view_marks.specs.Marks.{part_form, part_marks, first_unmarked}
-use Rattle.view_goal_text.specs.declared.lines.ShownLine.{ShownLine}
+use Rattle.view_lines.specs.declared.lines.ShownLine.{ShownLine}
+use Rattle.view_goal_text.specs.Styles.{StyleView}
 use Rattle.view_goal_text.specs.Laws.{NamesFirst}
 use Rattle.view_goal_text.specs.Listing.{view_of, view_lines, parts_lines, first_hard, goal_parts}
-use Rattle.view_goal_text.specs.Inside.Shown.{line_view, AreAdded}
+use Rattle.view_lines.specs.Shown.{line_view, AreAdded}
 use Rattle.view_goal_text.specs.Inside.Printed.{IsPartPrinted, ArePartsPrinted}
-use Rattle.view_goal_text.proofs.Adding.{added-more}
+use Rattle.view_lines.proofs.Adding.{added-more}
 
 -- ---- lists of parts
 
@@ -37,30 +38,30 @@ abbrev is_none : List PartRowsView → Bool
 is_none [] = Bool.true
 is_none (p ∷ ps) = Bool.false
 
-pub parts-none : (bound : Option ℕ) (k : ℕ) (t : TableView) (old : List ShownLine)
-    → ArePartsPrinted bound k t t [] old old None
-parts-none bound k t old [] e = (sym (append-nil (map (line_view t) old)), refl)
-parts-none bound k t old (p ∷ ps) e =
+pub parts-none : (s : StyleView) (bound : Option ℕ) (k : ℕ) (t : TableView) (old : List ShownLine)
+    → ArePartsPrinted s bound k t t [] old old None
+parts-none s bound k t old [] e = (sym (append-nil (map (line_view t) old)), refl)
+parts-none s bound k t old (p ∷ ps) e =
     let wrong : Bool.true ≡ Bool.false = ap is_none e in absurd cc
 
-pub parts-some : (bound : Option ℕ) (k n : ℕ) (t u v : TableView) (first : PartRows) (rest : List PartRows)
+pub parts-some : (s : StyleView) (bound : Option ℕ) (k n : ℕ) (t u v : TableView) (first : PartRows) (rest : List PartRows)
     (old mid new : List ShownLine) (easy : Bool) (later : Option ℕ) → n ≡ suc k
-    → IsPartPrinted bound k t u first old mid easy
-    → ArePartsPrinted bound n u v rest mid new later
+    → IsPartPrinted s bound k t u first old mid easy
+    → ArePartsPrinted s bound n u v rest mid new later
     → map (part_view u) rest ≡ map (part_view t) rest
-    → ArePartsPrinted bound k t v (first ∷ rest) old new (cond easy later (Some k))
-parts-some bound k n t u v first rest old mid new easy later one here others same [] e =
+    → ArePartsPrinted s bound k t v (first ∷ rest) old new (cond easy later (Some k))
+parts-some s bound k n t u v first rest old mid new easy later one here others same [] e =
     let wrong : Bool.false ≡ Bool.true = ap is_none e in absurd cc
-parts-some bound k n t u v first rest old mid new easy later one here others same (p ∷ ps) e =
+parts-some s bound k n t u v first rest old mid new easy later one here others same (p ∷ ps) e =
     let d = part_view t first in
     let is : part_view t first ≡ view_of bound p = ap (first_view d) e in
     let are : map (part_view u) rest ≡ map (view_of bound) ps = same ∙ ap later_views e in
     let one_part = here p is in
     let more = others ps are in
-    let lines = view_lines (is_some bound) k (view_of bound p) (part_marks (is_some bound) p) in
-    let behind : AreAdded bound u v mid (parts_lines bound (suc k) ps) new =
-    subst (λ m. AreAdded bound u v mid (parts_lines bound m ps) new) one more.0 in (
-      added-more bound t u v old lines mid (parts_lines bound (suc k) ps) new one_part.0 behind,
+    let lines = view_lines s bound k (view_of bound p) (part_marks (is_some bound) p) in
+    let behind : AreAdded bound u v mid (parts_lines s bound (suc k) ps) new =
+    subst (λ m. AreAdded bound u v mid (parts_lines s bound m ps) new) one more.0 in (
+      added-more bound t u v old lines mid (parts_lines s bound (suc k) ps) new one_part.0 behind,
       λ i. cond (one_part.1 i) ((more.1 ∙ ap (λ m. first_hard bound m ps) one) i) (Some k),
     )
 

@@ -1,53 +1,68 @@
--- What the listing says of the first goal of a part that isn't easy: what is missing.
-use Rattle.std.specs.Prelude.{ℕ, ◌-◌, ◌^◌, nat_lt, Bool, if◌then◌else◌, List, [], ◌∷◌, ◌++◌, codes, decimal, map}
+-- What the listing says of a goal that isn't easy: what is missing.
+use Rattle.std.specs.Prelude.{ℕ, Bool, if◌then◌else◌, List, [], ◌∷◌, ◌++◌, codes, map, Option, Some, None, is_some}
+use Rattle.std.specs.List.{flat_map}
 use Rattle.term_table.specs.Tree.{Tree}
 use Rattle.term_table.specs.Equality.{tree_eq}
 use Rattle.formula_tree.specs.Formulas.{Form}
 use Rattle.lf_terms.specs.Encoding.{form_encoding}
 use Rattle.lf_encode.specs.Reading.{form_of}
 use Rattle.prover_class.specs.Hypotheses.{Hyps}
-use Rattle.view_marks.specs.Hints.{known_hyps, missing_part, HintView, Plain, Bounds, Rights, hint_of}
-use Rattle.view_goal_text.specs.Lines.{GoalLine, plain_line, before}
-use Rattle.view_goal_text.specs.declared.limits.TheConstants.{LEAST_NEGATIVE}
+use Rattle.view_marks.specs.Hints.{known_hyps, missing_parts, HintView, Plain, Bounds, Rights, hint_of}
+use Rattle.view_marks.specs.Halves.{half_of}
+use Rattle.view_marks.specs.declared.halves.Half.{Half}
+use Rattle.view_marks.specs.declared.halves.Half.TheVariants.{Premise, Conclusion}
+use Rattle.view_labels.specs.Labels.{bounds_label}
+use Rattle.view_lines.specs.Formulas.{is_false_term}
+use Rattle.view_lines.specs.Lines.{GoalLine, plain_line, before}
+
+-- what stands before a missing part, which is false by computing or not
+abbrev pub missing_label : Bool → List ℕ
+missing_label wrong = if wrong then codes "  false: " else codes "  missing: "
 
 -- the missing part of a goal, unless that is the goal itself
-abbrev pub missing_lines : Tree → Tree → List GoalLine
-missing_lines part goal =
-    if tree_eq part goal then [] else before (codes "  missing: ") part ∷ []
+abbrev pub missing_lines : Option ℕ → Tree → Tree → List GoalLine
+missing_lines bound part goal =
+    if tree_eq part goal then [] else before (missing_label (is_false_term bound part)) part ∷ []
 
--- a word as a number below 0, where it is near 2 ^ 64: one of those that `lda` can give
-unfoldable pub negative_text : ℕ → List ℕ
-negative_text n =
-    if nat_lt n LEAST_NEGATIVE then [] else codes " (-" ++ (decimal (2 ^ 64 - n) ++ codes ")")
+-- what is said of the half of a hypothesis that isn't easy
+abbrev pub half_text : Half → List ℕ
+half_text Premise = codes "    its premise isn't easy"
+half_text Conclusion = codes "    its address is another"
 
--- a text and a word behind it, as both numbers
-abbrev pub worded : List ℕ → ℕ → List ℕ
-worded text n = text ++ (decimal n ++ negative_text n)
+-- the line of that, where the hypothesis is an implication
+abbrev pub half_lines : Option Half → List GoalLine
+half_lines None = []
+half_lines (Some half) = plain_line (half_text half) ∷ []
 
--- what is known of both sides of a comparison
-abbrev pub bounds_label : ℕ → ℕ → List ℕ
-bounds_label upper lower =
-    worded (codes "  the left side is at most ") upper
-    ++ worded (codes ", the right side at least ") lower
+-- a hypothesis that gives rights to addresses with the summands of that in M, and its half that isn't easy
+abbrev pub like_line : Bool → Form → Form → List GoalLine
+like_line counted M F =
+    before (codes "  like it: ") (form_encoding F) ∷ half_lines (half_of counted M F)
 
--- the formulas that give rights to addresses with the same summands, or that there is none
-abbrev pub like_lines : List Tree → List GoalLine
-like_lines [] = plain_line (codes "  nothing known has this address's summands") ∷ []
-like_lines (t ∷ ts) = map (before (codes "  like it: ")) (t ∷ ts)
+-- these hypotheses, or that there is none
+abbrev pub like_lines : Bool → Form → List Form → List GoalLine
+like_lines counted M [] = plain_line (codes "  nothing known has this address's summands") ∷ []
+like_lines counted M (F ∷ Fs) = flat_map (like_line counted M) (F ∷ Fs)
 
--- what is said of the missing part
-abbrev pub said_lines : HintView → List GoalLine
-said_lines Plain = []
-said_lines (Bounds upper lower) = plain_line (bounds_label upper lower) ∷ []
-said_lines (Rights Fs) = like_lines (map form_encoding Fs)
+-- what is said of the missing part M
+abbrev pub said_lines : Bool → Form → HintView → List GoalLine
+said_lines counted M Plain = []
+said_lines counted M (Bounds upper lower) = plain_line (bounds_label upper lower) ∷ []
+said_lines counted M (Rights Fs) = like_lines counted M Fs
 
 -- the missing part of a goal, and what is said of it under these hypotheses
-abbrev pub part_hint : Bool → Hyps → Form → Tree → List GoalLine
-part_hint counted Γ M goal =
-    missing_lines (form_encoding M) goal ++ said_lines (hint_of counted Γ M)
+abbrev pub part_hint : Option ℕ → Hyps → Form → Tree → List GoalLine
+part_hint bound Γ M goal =
+    let counted = is_some bound in
+    missing_lines bound (form_encoding M) goal ++ said_lines counted M (hint_of counted Γ M)
 
--- the hint of a goal where these terms are known
-unfoldable pub goal_hint : Bool → List Tree → Tree → List GoalLine
-goal_hint counted known goal =
+-- the same of each missing part
+abbrev pub part_hints : Option ℕ → Hyps → List Form → Tree → List GoalLine
+part_hints bound Γ [] goal = []
+part_hints bound Γ (M ∷ Ms) goal = part_hint bound Γ M goal ++ part_hints bound Γ Ms goal
+
+-- the hints of a goal where these terms are known, of all that is missing or the first alone
+unfoldable pub goal_hint : Bool → Option ℕ → List Tree → Tree → List GoalLine
+goal_hint all bound known goal =
     let Γ : Hyps = known_hyps [] 0 (map form_of known) in
-    part_hint counted Γ (missing_part counted Γ (form_of goal)) goal
+    part_hints bound Γ (missing_parts all (is_some bound) Γ (form_of goal)) goal

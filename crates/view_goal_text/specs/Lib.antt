@@ -1,7 +1,5 @@
-pub mod Formulas
-pub mod Lines
+pub mod Styles
 pub mod Hints
-pub mod Texts
 pub mod Listing
 pub mod Answers
 pub mod Laws

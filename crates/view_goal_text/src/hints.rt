@@ -1,28 +1,51 @@
-//! The hint after a goal that isn't easy.
+//! The hints after a goal that isn't easy.
 //!
 //! Errors: out of memory, and `Results` if the search would cache more than it may; every id keeps
 //! its tree.
 
-ghost use Rattle.std.specs.Prelude.{◌≡◌, ◌<◌, ◌∷◌, [], ℕ, Option, is_some, codes, map, length};
+ghost use Rattle.std.specs.Prelude.{◌≡◌, ◌<◌, ◌∷◌, [], ℕ, List, Option, is_some, map, length};
 ghost use Rattle.std.specs.Prelude.{get_or, IfOk, OnOk};
+ghost use Rattle.std.specs.List.{flat_map};
 ghost use Rattle.term_table.specs.Table.{IsKnown, AllKnown, tree_at, Extends};
+ghost use Rattle.formula_tree.specs.Formulas.{Form};
+ghost use Rattle.lf_terms.specs.Encoding.{form_encoding};
 ghost use Rattle.prover_goals.specs.Search.{IsSearch};
-ghost use Rattle.view_marks.specs.Hints.{HintView};
+ghost use Rattle.view_labels.specs.Labels.{bounds_label};
+ghost use Rattle.view_marks.specs.Hints.{HintView, known_hyps};
 ghost use Rattle.view_marks.specs.Answers.{IsHint, IsKnownHint};
-ghost use Rattle.view_goal_text.specs.Lines.{plain_line, before};
-ghost use Rattle.view_goal_text.specs.Hints.{missing_lines, bounds_label, like_lines, said_lines};
-ghost use Rattle.view_goal_text.specs.Hints.{goal_hint};
+ghost use Rattle.view_lines.specs.Lines.{plain_line};
+ghost use Rattle.view_goal_text.specs.Hints.{missing_label, missing_lines, half_text, half_lines};
+ghost use Rattle.view_goal_text.specs.Hints.{like_line, like_lines, said_lines};
+ghost use Rattle.view_goal_text.specs.Hints.{part_hint, part_hints, goal_hint};
 ghost use Rattle.view_goal_text.specs.Inside.FormTerms.{IsFormTerm, AreFormTerms};
-ghost use Rattle.view_goal_text.specs.Inside.Shown.{AreKnownLines, AreAdded};
-ghost use Rattle.hereditary_subst.specs.Limits.{Spends};
+ghost use Rattle.view_lines.specs.Shown.{AreKnownLines, AreAdded};
 
-use crate::labels::{bounds_label, label_of};
-use crate::lines::{ShownLine, push_formula, push_words};
+use crate::style::Manner;
 use hereditary_subst::Exhausted;
 use prover_goals::Search;
-use std::alloc::AllocError;
+use std::alloc::{AllocError, Global};
 use term_table::{Id, Table};
-use view_marks::{Hint, missing_of};
+use view_labels::{bounds_label, label_of};
+use view_lines::{ShownLine, is_false_term, push_formula, push_words};
+use view_marks::{Half, Hint, Wanted, half_of, hint_about, missing_parts};
+
+/// A missing part of a goal, and the step bound.
+#[derive(Clone, Copy)]
+struct Missing {
+    bound: Option<u32>,
+    part: Id,
+}
+
+/// What is printed before a missing part, which is false by computing or not.
+fn missing_label(alloc: Global, wrong: bool) -> Result<Vec<u8>, AllocError>
+    ensures { IfOk result (λ v. v.items ≡ missing_label wrong) }
+{
+    if wrong {
+        label_of(alloc, "  false: ")
+    } else {
+        label_of(alloc, "  missing: ")
+    }
+}
 
 /// The line of the missing part of a goal, unless that is the goal itself.
 fn push_missing(
@@ -35,7 +58,8 @@ fn push_missing(
     requires lines { AreKnownLines table.old lines.old.items }
     requires part { IsKnown table.old part }
     requires goal { IsKnown table.old goal }
-    ensures exact { let added = missing_lines (tree_at table.old part) (tree_at table.old goal) in
+    ensures exact { let t = table.old in
+        let added = missing_lines bound (tree_at t part) (tree_at t goal) in
         OnOk result (AreAdded bound table.old table.new lines.old.items added lines.new.items) }
     ensures known { OnOk result (AreKnownLines table.new lines.new.items) }
     ensures extends { Extends table.old table.new }
@@ -44,7 +68,8 @@ fn push_missing(
     if same {
         return Ok(());
     }
-    let label = label_of(table.allocator(), "  missing: ")?;
+    let wrong = is_false_term(table, bound, part)?;
+    let label = missing_label(table.allocator(), wrong)?;
     push_formula(table, bound, lines, label, part)?;
     Ok(())
 }
@@ -60,43 +85,124 @@ fn id_at(table: &Table, ids: &[Id], index: usize) -> Id
     ids[index]
 }
 
-/// Adds a line for each formula that gives rights to addresses with equal summands.
+/// What is said of a half that isn't easy.
+fn half_label(alloc: Global, half: Half) -> Result<Vec<u8>, AllocError>
+    ensures { IfOk result (λ v. v.items ≡ half_text half) }
+{
+    match half {
+        Half::Premise => label_of(alloc, "    its premise isn't easy"),
+        Half::Conclusion => label_of(alloc, "    its address is another"),
+    }
+}
+
+/// The line of a half that isn't easy.
+fn push_half_text(table: &Table, lines: &mut Vec<ShownLine>, half: Half) -> Result<(), AllocError>
+    requires { AreKnownLines table.now lines.old.items }
+    ensures exact { (bound : Option ℕ) → OnOk result
+        (AreAdded bound table.now table.now lines.old.items (plain_line (half_text half) ∷ [])
+        lines.new.items) }
+    ensures known { OnOk result (AreKnownLines table.now lines.new.items) }
+{
+    let label = half_label(table.allocator(), half)?;
+    push_words(table, lines, label)?;
+    Ok(())
+}
+
+/// The line of the half of a hypothesis that isn't easy, if it is an implication.
+fn push_half(
+    table: &Table,
+    lines: &mut Vec<ShownLine>,
+    half: Option<Half>,
+) -> Result<(), AllocError>
+    requires { AreKnownLines table.now lines.old.items }
+    ensures exact { (bound : Option ℕ) → OnOk result
+        (AreAdded bound table.now table.now lines.old.items (half_lines half) lines.new.items) }
+    ensures known { OnOk result (AreKnownLines table.now lines.new.items) }
+{
+    match half {
+        None => Ok(()),
+        Some(half) => push_half_text(table, lines, half),
+    }
+}
+
+/// Adds the lines of a hypothesis that gives rights to addresses with equal summands.
+#[tactic(auto, using(prover_goals::proofs::Kept::rows))]
 fn push_like(
     table: &mut Table,
-    bound: Option<u32>,
+    search: &mut Search,
     lines: &mut Vec<ShownLine>,
-    ids: &[Id],
-) -> Result<(), AllocError>
+    missing: &Missing,
+    id: Id,
+) -> Result<(), Exhausted>
     requires lines { AreKnownLines table.old lines.old.items }
-    requires ids { AllKnown table.old ids.now }
-    ensures exact { let trees = map (tree_at table.old) ids.now in
-        let added = map (before (codes "  like it: ")) trees in
-        OnOk result (AreAdded bound table.old table.new lines.old.items added lines.new.items) }
+    requires missing { IsKnown table.old missing.now.part }
+    requires id { IsKnown table.old id }
+    requires search { IsSearch table.old search.old }
+    ensures exact { let m = missing.now in (M F : Form)
+        → tree_at table.old m.part ≡ form_encoding M → tree_at table.old id ≡ form_encoding F
+        → OnOk result (AreAdded m.bound table.old table.new lines.old.items
+        (like_line (is_some m.bound) M F) lines.new.items) }
     ensures known { OnOk result (AreKnownLines table.new lines.new.items) }
     ensures extends { Extends table.old table.new }
+    ensures search { OnOk result (IsSearch table.new search.new) }
+{
+    let bound = missing.bound;
+    let half = half_of(table, search, bound.is_some(), id, missing.part)?;
+    let label = label_of(table.allocator(), "  like it: ")?;
+    push_formula(table, bound, lines, label, id)?;
+    push_half(table, lines, half)?;
+    Ok(())
+}
+
+/// Adds the lines of each hypothesis that gives rights to addresses with equal summands.
+fn push_each_like(
+    table: &mut Table,
+    search: &mut Search,
+    lines: &mut Vec<ShownLine>,
+    missing: &Missing,
+    ids: &[Id],
+) -> Result<(), Exhausted>
+    requires lines { AreKnownLines table.old lines.old.items }
+    requires missing { IsKnown table.old missing.now.part }
+    requires ids { AllKnown table.old ids.now }
+    requires search { IsSearch table.old search.old }
+    ensures exact { let m = missing.now in (M : Form) (Fs : List Form)
+        → tree_at table.old m.part ≡ form_encoding M
+        → map (tree_at table.old) ids.now ≡ map form_encoding Fs
+        → OnOk result (AreAdded m.bound table.old table.new lines.old.items
+        (flat_map (like_line (is_some m.bound) M) Fs) lines.new.items) }
+    ensures known { OnOk result (AreKnownLines table.new lines.new.items) }
+    ensures extends { Extends table.old table.new }
+    ensures search { OnOk result (IsSearch table.new search.new) }
 {
     for index in 0..ids.len() {
         let id = id_at(table, ids, index);
-        let label = label_of(table.allocator(), "  like it: ")?;
-        push_formula(table, bound, lines, label, id)?;
+        push_like(table, search, lines, missing, id)?;
     }
     Ok(())
 }
 
-/// Adds a line for each formula that gives rights to addresses with equal summands, or a line that
-/// there is none.
+/// Adds the lines of each hypothesis that gives rights to addresses with equal summands, or a line
+/// that there is none.
 fn push_rights(
     table: &mut Table,
-    bound: Option<u32>,
+    search: &mut Search,
     lines: &mut Vec<ShownLine>,
+    missing: &Missing,
     ids: &[Id],
-) -> Result<(), AllocError>
+) -> Result<(), Exhausted>
     requires lines { AreKnownLines table.old lines.old.items }
+    requires missing { IsKnown table.old missing.now.part }
     requires ids { AllKnown table.old ids.now }
-    ensures exact { let added = like_lines (map (tree_at table.old) ids.now) in
-        OnOk result (AreAdded bound table.old table.new lines.old.items added lines.new.items) }
+    requires search { IsSearch table.old search.old }
+    ensures exact { let m = missing.now in (M : Form) (Fs : List Form)
+        → tree_at table.old m.part ≡ form_encoding M
+        → map (tree_at table.old) ids.now ≡ map form_encoding Fs
+        → OnOk result (AreAdded m.bound table.old table.new lines.old.items
+        (like_lines (is_some m.bound) M Fs) lines.new.items) }
     ensures known { OnOk result (AreKnownLines table.new lines.new.items) }
     ensures extends { Extends table.old table.new }
+    ensures search { OnOk result (IsSearch table.new search.new) }
 {
     let none = ids.is_empty();
     if none {
@@ -105,7 +211,7 @@ fn push_rights(
         push_words(table, lines, label)?;
         return Ok(());
     }
-    push_like(table, bound, lines, ids)?;
+    push_each_like(table, search, lines, missing, ids)?;
     Ok(())
 }
 
@@ -130,30 +236,102 @@ fn push_bounds(
 /// What is said of the missing part.
 fn push_said(
     table: &mut Table,
-    bound: Option<u32>,
+    search: &mut Search,
     lines: &mut Vec<ShownLine>,
+    missing: &Missing,
     hint: &Hint,
-) -> Result<(), AllocError>
+) -> Result<(), Exhausted>
     requires lines { AreKnownLines table.old lines.old.items }
+    requires missing { IsKnown table.old missing.now.part }
     requires hint { IsKnownHint table.old hint.now }
-    ensures exact { (view : HintView) → IsHint table.old view hint.now → OnOk result
-        (AreAdded bound table.old table.new lines.old.items (said_lines view) lines.new.items) }
+    requires search { IsSearch table.old search.old }
+    ensures exact { let m = missing.now in (M : Form) (view : HintView)
+        → tree_at table.old m.part ≡ form_encoding M → IsHint table.old view hint.now
+        → OnOk result (AreAdded m.bound table.old table.new lines.old.items
+        (said_lines (is_some m.bound) M view) lines.new.items) }
     ensures known { OnOk result (AreKnownLines table.new lines.new.items) }
     ensures extends { Extends table.old table.new }
+    ensures search { OnOk result (IsSearch table.new search.new) }
 {
     match hint {
         Hint::Plain => Ok(()),
-        Hint::Bounds(upper, lower) => push_bounds(table, lines, *upper, *lower),
-        Hint::Rights(ids) => push_rights(table, bound, lines, ids.as_slice()),
+        Hint::Bounds(upper, lower) => {
+            push_bounds(table, lines, *upper, *lower)?;
+            Ok(())
+        }
+        Hint::Rights(ids) => push_rights(table, search, lines, missing, ids.as_slice()),
     }
 }
 
-/// Adds the lines of the hint for a goal under the hypotheses `known`.
+/// Adds the lines about a missing part of a goal under the hypotheses `known`.
+#[tactic(auto, using(prover_goals::proofs::Kept::rows))]
+fn push_part_hint(
+    table: &mut Table,
+    search: &mut Search,
+    bound: Option<u32>,
+    lines: &mut Vec<ShownLine>,
+    known: &[Id],
+    part: Id,
+    goal: Id,
+) -> Result<(), Exhausted>
+    requires lines { AreKnownLines table.old lines.old.items }
+    requires known { AllKnown table.old known.now }
+    requires part { IsKnown table.old part }
+    requires goal { IsKnown table.old goal }
+    requires search { IsSearch table.old search.old }
+    ensures exact { (Fs : List Form) (M : Form)
+        → map (tree_at table.old) known.now ≡ map form_encoding Fs
+        → tree_at table.old part ≡ form_encoding M → OnOk result
+        (AreAdded bound table.old table.new lines.old.items
+        (part_hint bound (known_hyps [] 0 Fs) M (tree_at table.old goal)) lines.new.items) }
+    ensures known { OnOk result (AreKnownLines table.new lines.new.items) }
+    ensures extends { Extends table.old table.new }
+    ensures search { OnOk result (IsSearch table.new search.new) }
+{
+    let hint = hint_about(table, search, bound.is_some(), known, part)?;
+    push_missing(table, bound, lines, part, goal)?;
+    let missing = Missing { bound, part };
+    push_said(table, search, lines, &missing, &hint)?;
+    Ok(())
+}
+
+/// Adds the lines about each of the missing parts of a goal under the hypotheses `known`.
+fn push_part_hints(
+    table: &mut Table,
+    search: &mut Search,
+    bound: Option<u32>,
+    lines: &mut Vec<ShownLine>,
+    known: &[Id],
+    parts: &[Id],
+    goal: Id,
+) -> Result<(), Exhausted>
+    requires lines { AreKnownLines table.old lines.old.items }
+    requires known { AllKnown table.old known.now }
+    requires parts { AllKnown table.old parts.now }
+    requires goal { IsKnown table.old goal }
+    requires search { IsSearch table.old search.old }
+    ensures exact { (Fs Ms : List Form)
+        → map (tree_at table.old) known.now ≡ map form_encoding Fs
+        → map (tree_at table.old) parts.now ≡ map form_encoding Ms → OnOk result
+        (AreAdded bound table.old table.new lines.old.items
+        (part_hints bound (known_hyps [] 0 Fs) Ms (tree_at table.old goal)) lines.new.items) }
+    ensures known { OnOk result (AreKnownLines table.new lines.new.items) }
+    ensures extends { Extends table.old table.new }
+    ensures search { OnOk result (IsSearch table.new search.new) }
+{
+    for index in 0..parts.len() {
+        let part = id_at(table, parts, index);
+        push_part_hint(table, search, bound, lines, known, part, goal)?;
+    }
+    Ok(())
+}
+
+/// Adds the hints for a goal under the hypotheses `known`.
 #[tactic(auto, using(prover_goals::proofs::Kept::rows))]
 pub(crate) fn push_hint(
     table: &mut Table,
     search: &mut Search,
-    bound: Option<u32>,
+    manner: &Manner,
     lines: &mut Vec<ShownLine>,
     known: &[Id],
     goal: Id,
@@ -162,17 +340,21 @@ pub(crate) fn push_hint(
     requires known { AllKnown table.old known.now }
     requires goal { IsKnown table.old goal }
     requires search { IsSearch table.old search.old }
-    ensures exact { let trees = map (tree_at table.old) known.now in
+    ensures exact { let m = manner.now in
+        let trees = map (tree_at table.old) known.now in
+        let added = goal_hint m.style.now.all m.bound trees (tree_at table.old goal) in
         AreFormTerms trees → IsFormTerm (tree_at table.old goal) → OnOk result
-        (AreAdded bound table.old table.new lines.old.items
-        (goal_hint (is_some bound) trees (tree_at table.old goal)) lines.new.items) }
+        (AreAdded m.bound table.old table.new lines.old.items added lines.new.items) }
     ensures known { OnOk result (AreKnownLines table.new lines.new.items) }
     ensures extends { Extends table.old table.new }
     ensures search { OnOk result (IsSearch table.new search.new) }
-    ensures spends { Spends table.new search.old.memo search.new.memo result }
 {
-    let missing = missing_of(table, search, bound.is_some(), known, goal)?;
-    push_missing(table, bound, lines, missing.part, goal)?;
-    push_said(table, bound, lines, &missing.hint)?;
+    let bound = manner.bound;
+    let wanted = Wanted {
+        counted: bound.is_some(),
+        all: manner.style.all,
+    };
+    let parts = missing_parts(table, search, wanted, known, goal)?;
+    push_part_hints(table, search, bound, lines, known, parts.as_slice(), goal)?;
     Ok(())
 }

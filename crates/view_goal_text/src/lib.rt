@@ -3,26 +3,22 @@
 //! `list_goals` returns, for a container's bytes under a policy, the listing of the goals of its
 //! condition (`goals_of_bytes` in `specs/Listing`), exactly if the gate's checks before the proof
 //! pass. Each goal comes with the hypotheses at its place and whether the class of easy conditions
-//! proves it. `specs/Lines` defines the lines, `specs/Hints` the hint after the first goal of a
-//! part that isn't easy, `specs/Formulas` how a formula is shown, `specs/Texts` the text of lines
-//! with the entries that they name, and `specs/Answers` the call's result. The last line names the
+//! proves it. `specs/Styles` says how goals are listed: beside the lines of a source, without
+//! what is easy, with all that is missing. `specs/Hints` defines the hints after a goal that isn't
+//! easy, `specs/Listing` the lines of rows and parts, and `specs/Answers` the call's result. Lines
+//! are those of view_lines. The last line names the
 //! part at which a proof fails (`laws`). The text is this project's own.
 #![tactic(auto)]
 
-mod copies;
 mod fault;
-mod formulas;
 mod hints;
-mod labels;
-mod limits;
-mod lines;
 mod listing;
 mod parts;
 mod rows;
-mod texts;
+mod style;
 mod theorems;
 
 pub use fault::GoalsFault;
-pub use limits::MAX_SHOWN;
 pub use listing::list_goals;
+pub use style::Style;
 pub use theorems::laws;

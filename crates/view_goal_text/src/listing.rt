@@ -15,11 +15,11 @@ ghost use Rattle.view_goals.specs.Rows.{part_view, HasKnownIds};
 ghost use Rattle.view_goals.specs.Goals.{PartGoals};
 ghost use Rattle.view_goal_text.specs.Listing.{view_of, goal_parts, parts_text, goals_text};
 ghost use Rattle.view_goal_text.specs.Answers.{IsGoalsAnswer};
+ghost use Rattle.view_goal_text.specs.Styles.{style_view};
 
 use crate::fault::GoalsFault;
-use crate::labels::push_last;
 use crate::parts::push_parts;
-use crate::texts::lines_text;
+use crate::style::{Manner, Style};
 use alpha_cfg::Cut;
 use hereditary_subst::Exhausted;
 use pcc_gate::{GateFault, Passed, front};
@@ -29,6 +29,8 @@ use prover_goals::Search;
 use std::alloc::Global;
 use term_table::{Id, Table};
 use view_goals::{PartRows, condition_goals, laws};
+use view_labels::push_last;
+use view_lines::lines_text;
 
 /// The parts of the condition of cut code, with their goals.
 fn parts_of(
@@ -55,27 +57,33 @@ fn parts_of(
 }
 
 /// The text of the parts.
-fn text_of(table: &mut Table, bound: Option<u32>, parts: &[PartRows]) -> Result<Vec<u8>, Exhausted>
+fn text_of(table: &mut Table, manner: &Manner, parts: &[PartRows]) -> Result<Vec<u8>, Exhausted>
     requires { All (HasKnownIds table.old) parts.now }
-    ensures exact { (ps : List PartGoals)
-        → map (part_view table.old) parts.now ≡ map (view_of bound) ps
-        → IfOk result (λ v. v.items ≡ parts_text bound ps) }
+    ensures exact { let m = manner.now in (ps : List PartGoals)
+        → map (part_view table.old) parts.now ≡ map (view_of m.bound) ps
+        → IfOk result (λ v. v.items ≡ parts_text (style_view m.style.now) m.bound ps) }
 {
     let mut search = Search::new(table, MOST_SEARCHED);
     let mut lines = Vec::new(table.allocator());
-    let hard = push_parts(table, &mut search, bound, &mut lines, parts, 0)?;
+    let hard = push_parts(table, &mut search, manner, &mut lines, parts, 0)?;
     let mut out = lines_text(table, lines.as_slice())?;
     push_last(&mut out, hard)?;
     Ok(out)
 }
 
 /// The listing of the goals of what passed the clauses before the proof.
-fn listed(policy: &Policy, bytes: &[u8], passed: Passed<'_>) -> Result<Vec<u8>, Exhausted>
+fn listed(
+    policy: &Policy,
+    bytes: &[u8],
+    style: &Style,
+    passed: Passed<'_>,
+) -> Result<Vec<u8>, Exhausted>
     requires passes { let contents = contents_of passed.container in
         Passes policy.now bytes.now contents passed.cut.code passed.cut.marks }
     requires held { IsHeld passed.container }
     ensures { let c = contents_of passed.entry.container in
-        IfOk result (λ v. v.items ≡ goals_text policy.now c passed.entry.cut.code) }
+        let s = style_view style.now in
+        IfOk result (λ v. v.items ≡ goals_text s policy.now c passed.entry.cut.code) }
 {
     let _ = bytes; // only the clauses speak of it
     let container = passed.container;
@@ -84,18 +92,24 @@ fn listed(policy: &Policy, bytes: &[u8], passed: Passed<'_>) -> Result<Vec<u8>, 
     let mut table = container.table;
     let invs = container.invs;
     let parts = parts_of(&mut table, policy, &cut, &invs, bound)?;
-    text_of(&mut table, bound, &parts)
+    let manner = Manner { bound, style };
+    text_of(&mut table, &manner, &parts)
 }
 
 /// The answer to bytes of which the clauses before the proof hold.
-fn answered(policy: &Policy, bytes: &[u8], passed: Passed<'_>) -> Result<Vec<u8>, GoalsFault>
+fn answered(
+    policy: &Policy,
+    bytes: &[u8],
+    style: &Style,
+    passed: Passed<'_>,
+) -> Result<Vec<u8>, GoalsFault>
     requires passes { let contents = contents_of passed.container in
         Passes policy.now bytes.now contents passed.cut.code passed.cut.marks }
     requires first { front_refusal policy.now bytes.now ≡ None }
     requires held { IsHeld passed.container }
-    ensures { IsGoalsAnswer policy.now bytes.now result }
+    ensures { IsGoalsAnswer (style_view style.now) policy.now bytes.now result }
 {
-    match listed(policy, bytes, passed) {
+    match listed(policy, bytes, style, passed) {
         Ok(out) => Ok(out),
         Err(Exhausted::Memory) => Err(GoalsFault::Memory),
         Err(Exhausted::Results) => Err(GoalsFault::Results),
@@ -106,11 +120,13 @@ fn answered(policy: &Policy, bytes: &[u8], passed: Passed<'_>) -> Result<Vec<u8>
 /// text, if the gate's checks before the proof pass (`pcc_gate::front`). The listing has each part
 /// of the condition with its number and the index where it begins. It has each goal with the index
 /// that asks for it and why, the hypotheses there, and whether the class of easy conditions proves
-/// it, by itself or because what it is part of is. After the first goal of a part that isn't easy
-/// it says what is missing (`view_marks::missing_of`). The last line names the first part with a
-/// goal that isn't easy, which is the part that `bounds_prover::prove` names.
+/// it, by itself or because what it is part of is, or it is false by computing
+/// (`view_values::is_false`). After the first goal of a part that isn't easy it says what is missing
+/// (`view_marks::missing_parts`, `hint_about`). The last line names the first part with a goal that
+/// isn't easy, which is the part that `bounds_prover::prove` names. `style` changes this: each index
+/// comes with its line of a source, easy goals are left out, or each goal has all its hints.
 ///
-/// If a formula's term has more than `MAX_SHOWN` nodes, or its text more bytes than that, the
+/// If a formula's term has more than `view_lines::MAX_SHOWN` nodes, or its text more bytes than that, the
 /// listing shows the name of its entry, as `e41`. After the parts come the entries that such
 /// formulas are made of, a line each and parts first, as `e41 = and e3 e40`. The time depends on
 /// the limit and on the number of entries, not on the size of a tree.
@@ -118,13 +134,18 @@ fn answered(policy: &Policy, bytes: &[u8], passed: Passed<'_>) -> Result<Vec<u8>
 /// Errors: `Refused` names the first of those checks that fails. `Memory` and `Results` say nothing
 /// about `bytes`: there was no memory, or the results that the search caches and the terms that it
 /// makes were more than `prover_conditions::MOST_SEARCHED`.
-pub fn list_goals(alloc: Global, policy: &Policy, bytes: &[u8]) -> Result<Vec<u8>, GoalsFault>
-    ensures exact { IsGoalsAnswer policy.now bytes.now result }
+pub fn list_goals(
+    alloc: Global,
+    policy: &Policy,
+    bytes: &[u8],
+    style: &Style,
+) -> Result<Vec<u8>, GoalsFault>
+    ensures exact { IsGoalsAnswer (style_view style.now) policy.now bytes.now result }
 {
     match front(alloc, policy, bytes) {
         Err(GateFault::Refused(refusal)) => Err(GoalsFault::Refused(refusal)),
         Err(GateFault::Memory) => Err(GoalsFault::Memory),
         Err(GateFault::Results) => Err(GoalsFault::Results),
-        Ok(passed) => answered(policy, bytes, passed),
+        Ok(passed) => answered(policy, bytes, style, passed),
     }
 }

@@ -3,33 +3,72 @@
 //! Errors: out of memory, and `Results` if the search would cache more than it may; every id keeps
 //! its tree.
 
-ghost use Rattle.std.specs.Prelude.{◌≡◌, ◌≤◌, ◌+◌, ◌&&◌, ◌++◌, ◌∷◌, [], OnOk, All, map, take};
-ghost use Rattle.std.specs.Prelude.{true, false, not, slice_index_or, is_some};
+ghost use Rattle.std.specs.Prelude.{◌≡◌, ◌<◌, ◌≤◌, ◌+◌, ◌&&◌, ◌||◌, ◌++◌, ◌∷◌, [], OnOk, All, map};
+ghost use Rattle.std.specs.Prelude.{true, not, take, drop, length, Option, IfOk};
 ghost use Rattle.term_table.specs.Table.{IsKnown, AllKnown, tree_at, Extends};
 ghost use Rattle.prover_goals.specs.Search.{IsSearch};
 ghost use Rattle.view_goals.specs.Rows.{row_view, HasKnownId};
-ghost use Rattle.view_goal_text.specs.Lines.{before, goal_label, known_label};
+ghost use Rattle.view_marks.specs.Looking.{is_hard};
+ghost use Rattle.view_labels.specs.Labels.{goal_label, known_label};
+ghost use Rattle.view_lines.specs.Formulas.{is_false_term};
+ghost use Rattle.view_lines.specs.Lines.{before};
+ghost use Rattle.view_goal_text.specs.Styles.{style_view, is_row_listed};
 ghost use Rattle.view_goal_text.specs.Hints.{goal_hint};
-ghost use Rattle.view_goal_text.specs.Listing.{row_line, goal_count, is_hard, row_hint};
+ghost use Rattle.view_goal_text.specs.Listing.{hard_mark, mark_of};
+ghost use Rattle.view_goal_text.specs.Listing.{row_line, listed_line, row_hint};
 ghost use Rattle.view_goal_text.specs.Listing.{known_after, row_lines};
 ghost use Rattle.view_goal_text.specs.Inside.FormTerms.{IsFormTerm, AreFormTerms};
 ghost use Rattle.view_goal_text.specs.Inside.FormTerms.{IsFormRow, AreFormRows};
-ghost use Rattle.view_goal_text.specs.Inside.Shown.{AreKnownLines, AreAdded};
-ghost use Rattle.hereditary_subst.specs.Limits.{Spends};
+ghost use Rattle.view_lines.specs.Shown.{AreKnownLines, AreAdded};
 
 use crate::hints::push_hint;
-use crate::labels::{goal_label, known_label};
-use crate::lines::{ShownLine, push_formula};
+use crate::style::Manner;
 use hereditary_subst::Exhausted;
 use prover_goals::Search;
 use std::alloc::AllocError;
 use term_table::{Id, Table};
 use view_goals::{Row, Why};
+use view_labels::{GoalName, Mark, goal_label, known_label};
+use view_lines::{ShownLine, is_false_term, push_formula};
+use view_marks::{Place, goal_count, is_hard, is_row_left, mark_at};
+
+/// What is printed of a row.
+#[derive(Clone, Copy)]
+struct Told {
+    /// Whether its line is.
+    line: bool,
+    /// Whether its goal is easy.
+    easy: bool,
+    /// Whether hints are.
+    hints: bool,
+    /// Whether it is a goal that isn't easy.
+    hard: bool,
+}
+
+/// The mark of a goal that isn't easy.
+fn hard_mark(wrong: bool) -> Mark
+    ensures { result ≡ hard_mark wrong }
+{
+    if wrong { Mark::False } else { Mark::Hard }
+}
+
+/// Returns how the goal that the term encodes is marked.
+fn mark_of(table: &mut Table, bound: Option<u32>, easy: bool, id: Id) -> Result<Mark, AllocError>
+    requires { IsKnown table.old id }
+    ensures exact { IfOk result (λ m. m ≡ mark_of bound easy (tree_at table.old id)) }
+    ensures extends { Extends table.old table.new }
+{
+    if easy {
+        return Ok(Mark::Easy);
+    }
+    let wrong = is_false_term(table, bound, id)?;
+    Ok(hard_mark(wrong))
+}
 
 /// The line of a goal.
 fn push_goal(
     table: &mut Table,
-    bound: Option<u32>,
+    manner: &Manner,
     lines: &mut Vec<ShownLine>,
     at: u32,
     why: Why,
@@ -39,21 +78,31 @@ fn push_goal(
 ) -> Result<(), AllocError>
     requires lines { AreKnownLines table.old lines.old.items }
     requires formula { IsKnown table.old formula }
-    ensures exact { let line = before (goal_label at why depth easy) (tree_at table.old formula) in
+    ensures exact { let m = manner.now in
+        let tree = tree_at table.old formula in
+        let mark = mark_of m.bound easy tree in
+        let line = before (goal_label m.style.now.lines.items at why depth mark) tree in
         OnOk result
-        (AreAdded bound table.old table.new lines.old.items (line ∷ []) lines.new.items) }
+        (AreAdded m.bound table.old table.new lines.old.items (line ∷ []) lines.new.items) }
     ensures known { OnOk result (AreKnownLines table.new lines.new.items) }
     ensures extends { Extends table.old table.new }
 {
-    let label = goal_label(table.allocator(), at, why, depth, easy)?;
-    push_formula(table, bound, lines, label, formula)?;
+    let mark = mark_of(table, manner.bound, easy, formula)?;
+    let name = GoalName {
+        at,
+        why,
+        depth,
+        mark,
+    };
+    let label = goal_label(table.allocator(), manner.style.lines.as_slice(), &name)?;
+    push_formula(table, manner.bound, lines, label, formula)?;
     Ok(())
 }
 
 /// Adds the line of the hypothesis that a branch adds; the branch is under `depth` others.
 fn push_known(
     table: &mut Table,
-    bound: Option<u32>,
+    manner: &Manner,
     lines: &mut Vec<ShownLine>,
     at: u32,
     taken: bool,
@@ -62,29 +111,32 @@ fn push_known(
 ) -> Result<(), AllocError>
     requires lines { AreKnownLines table.old lines.old.items }
     requires known { IsKnown table.old known }
-    ensures exact { let label = known_label (depth + 1) at taken in
+    ensures exact { let m = manner.now in
+        let label = known_label m.style.now.lines.items (depth + 1) at taken in
         let line = before label (tree_at table.old known) in OnOk result
-        (AreAdded bound table.old table.new lines.old.items (line ∷ []) lines.new.items) }
+        (AreAdded m.bound table.old table.new lines.old.items (line ∷ []) lines.new.items) }
     ensures known { OnOk result (AreKnownLines table.new lines.new.items) }
     ensures extends { Extends table.old table.new }
 {
-    let label = known_label(table.allocator(), u64::from(depth) + 1, at, taken)?;
-    push_formula(table, bound, lines, label, known)?;
+    let source = manner.style.lines.as_slice();
+    let label = known_label(table.allocator(), source, u64::from(depth) + 1, at, taken)?;
+    push_formula(table, manner.bound, lines, label, known)?;
     Ok(())
 }
 
 /// The line of a row; two that are both asked have none.
 fn push_row(
     table: &mut Table,
-    bound: Option<u32>,
+    manner: &Manner,
     lines: &mut Vec<ShownLine>,
     row: Row,
     easy: bool,
 ) -> Result<(), AllocError>
     requires lines { AreKnownLines table.old lines.old.items }
     requires row { HasKnownId table.old row }
-    ensures exact { let line = row_line (row_view table.old row) easy in
-        OnOk result (AreAdded bound table.old table.new lines.old.items line lines.new.items) }
+    ensures exact { let m = manner.now in
+        let line = row_line m.bound m.style.now.lines.items (row_view table.old row) easy in
+        OnOk result (AreAdded m.bound table.old table.new lines.old.items line lines.new.items) }
     ensures known { OnOk result (AreKnownLines table.new lines.new.items) }
     ensures extends { Extends table.old table.new }
 {
@@ -94,47 +146,40 @@ fn push_row(
             why,
             formula,
             depth,
-        } => push_goal(table, bound, lines, at, why, formula, depth, easy),
+        } => push_goal(table, manner, lines, at, why, formula, depth, easy),
         Row::Both => Ok(()),
         Row::Under {
             at,
             taken,
             known,
             depth,
-        } => push_known(table, bound, lines, at, taken, known, depth),
+        } => push_known(table, manner, lines, at, taken, known, depth),
     }
 }
 
-/// How many goals a row is.
-fn goal_count(table: &Table, row: &Row) -> usize
-    ensures exact { result ≡ goal_count (row_view table.now row.now) }
-    ensures one { result ≤ 1 }
+/// The line of a row, if it is listed.
+fn push_listed(
+    table: &mut Table,
+    manner: &Manner,
+    lines: &mut Vec<ShownLine>,
+    row: Row,
+    told: Told,
+) -> Result<(), AllocError>
+    requires lines { AreKnownLines table.old lines.old.items }
+    requires row { HasKnownId table.old row }
+    ensures exact { let m = manner.now in
+        let source = m.style.now.lines.items in
+        let line = listed_line m.bound source told.line (row_view table.old row) told.easy in
+        OnOk result (AreAdded m.bound table.old table.new lines.old.items line lines.new.items) }
+    ensures known { OnOk result (AreKnownLines table.new lines.new.items) }
+    ensures extends { Extends table.old table.new }
 {
-    let _ = table; // only the clause speaks of it
-    match row {
-        Row::Goal { .. } => 1,
-        Row::Both => 0,
-        Row::Under { .. } => 0,
+    let line = told.line;
+    if !line {
+        return Ok(());
     }
-}
-
-/// Returns the mark at an index, or false past the last.
-pub(crate) fn mark_at(marks: &[bool], place: usize) -> bool
-    ensures { result ≡ slice_index_or marks.now place false }
-{
-    place < marks.len() && marks[place]
-}
-
-/// Whether a row is a goal that isn't easy.
-fn is_hard(table: &Table, row: &Row, easy: bool) -> bool
-    ensures { result ≡ is_hard (row_view table.now row.now) easy }
-{
-    let _ = table; // only the clause speaks of it
-    match row {
-        Row::Goal { .. } => !easy,
-        Row::Both => false,
-        Row::Under { .. } => false,
-    }
+    push_row(table, manner, lines, row, told.easy)?;
+    Ok(())
 }
 
 /// Whether a hint is due, and the goal hard.
@@ -144,11 +189,39 @@ fn is_wanted(due: bool, hard: bool) -> bool
     due && hard
 }
 
-/// Whether a hint is due still.
-fn stays_due(due: bool, hard: bool) -> bool
-    ensures { result ≡ (due && not hard) }
+/// What is printed of a row, which is listed or not and easy or not, if hints are due or not.
+fn told_of(table: &Table, row: &Row, line: bool, easy: bool, due: bool) -> Told
+    ensures line { result.line ≡ line }
+    ensures easy { result.easy ≡ easy }
+    ensures hints { result.hints ≡ (due && is_hard (row_view table.now row.now) easy) }
+    ensures hard { result.hard ≡ is_hard (row_view table.now row.now) easy }
 {
-    due && !hard
+    let hard = is_hard(table, row, easy);
+    let hints = is_wanted(due, hard);
+    Told {
+        line,
+        easy,
+        hints,
+        hard,
+    }
+}
+
+/// Whether hints are due still: if all that is missing is told, always.
+fn stays_due(all: bool, due: bool, hard: bool) -> bool
+    ensures { result ≡ (due && (all || not hard)) }
+{
+    due && (all || !hard)
+}
+
+/// Whether the row at a place is listed.
+fn is_listed(table: &Table, manner: &Manner, rows: &[Row], marks: &[bool], at: Place) -> bool
+    requires within { at.row < length rows.now }
+    requires fewer { at.goal ≤ at.row }
+    ensures { let views = map (row_view table.now) (drop at.row rows.now) in
+        let only_missing = manner.now.style.now.only_missing in
+        result ≡ is_row_listed only_missing views (drop at.goal marks.now) }
+{
+    !manner.style.only_missing || is_row_left(table, rows, marks, at)
 }
 
 /// The first so many ids, or all.
@@ -167,7 +240,7 @@ fn first(ids: &[Id], count: usize) -> &[Id]
 fn push_goal_hint(
     table: &mut Table,
     search: &mut Search,
-    bound: Option<u32>,
+    manner: &Manner,
     lines: &mut Vec<ShownLine>,
     known: &[Id],
     goal: Id,
@@ -177,18 +250,18 @@ fn push_goal_hint(
     requires known { AllKnown table.old known.now }
     requires goal { IsKnown table.old goal }
     requires search { IsSearch table.old search.old }
-    ensures exact { let trees = map (tree_at table.old) known.now in
+    ensures exact { let m = manner.now in
+        let trees = map (tree_at table.old) known.now in
+        let here = take (depth + 1) trees in
+        let added = goal_hint m.style.now.all m.bound here (tree_at table.old goal) in
         AreFormTerms trees → IsFormTerm (tree_at table.old goal) → OnOk result
-        (AreAdded bound table.old table.new lines.old.items
-        (goal_hint (is_some bound) (take (depth + 1) trees) (tree_at table.old goal))
-        lines.new.items) }
+        (AreAdded m.bound table.old table.new lines.old.items added lines.new.items) }
     ensures known { OnOk result (AreKnownLines table.new lines.new.items) }
     ensures extends { Extends table.old table.new }
     ensures search { OnOk result (IsSearch table.new search.new) }
-    ensures spends { Spends table.new search.old.memo search.new.memo result }
 {
     let here = first(known, depth as usize + 1);
-    push_hint(table, search, bound, lines, here, goal)?;
+    push_hint(table, search, manner, lines, here, goal)?;
     Ok(())
 }
 
@@ -197,7 +270,7 @@ fn push_goal_hint(
 fn push_row_hint(
     table: &mut Table,
     search: &mut Search,
-    bound: Option<u32>,
+    manner: &Manner,
     lines: &mut Vec<ShownLine>,
     wanted: bool,
     known: &[Id],
@@ -207,56 +280,57 @@ fn push_row_hint(
     requires known { AllKnown table.old known.now }
     requires row { HasKnownId table.old row.now }
     requires search { IsSearch table.old search.old }
-    ensures exact { let trees = map (tree_at table.old) known.now in
+    ensures exact { let m = manner.now in
+        let trees = map (tree_at table.old) known.now in
         let view = row_view table.old row.now in
+        let added = row_hint m.style.now.all m.bound wanted trees view in
         AreFormTerms trees → IsFormRow view → OnOk result
-        (AreAdded bound table.old table.new lines.old.items
-        (row_hint wanted (is_some bound) trees view) lines.new.items) }
+        (AreAdded m.bound table.old table.new lines.old.items added lines.new.items) }
     ensures known { OnOk result (AreKnownLines table.new lines.new.items) }
     ensures extends { Extends table.old table.new }
     ensures search { OnOk result (IsSearch table.new search.new) }
-    ensures spends { Spends table.new search.old.memo search.new.memo result }
 {
     if !wanted {
         return Ok(());
     }
     match row {
         Row::Goal { formula, depth, .. } => {
-            push_goal_hint(table, search, bound, lines, known, *formula, *depth)
+            push_goal_hint(table, search, manner, lines, known, *formula, *depth)
         }
         Row::Both => Ok(()),
         Row::Under { .. } => Ok(()),
     }
 }
 
-/// Adds the line of a row, and its hint if it is wanted.
+/// Adds the line of a row and its hints, as `told` says.
 #[tactic(auto, using(prover_goals::proofs::Kept::rows))]
 fn push_row_lines(
     table: &mut Table,
     search: &mut Search,
-    bound: Option<u32>,
+    manner: &Manner,
     lines: &mut Vec<ShownLine>,
-    wanted: bool,
+    told: Told,
     known: &[Id],
     row: &Row,
-    easy: bool,
 ) -> Result<(), Exhausted>
     requires lines { AreKnownLines table.old lines.old.items }
     requires known { AllKnown table.old known.now }
     requires row { HasKnownId table.old row.now }
     requires search { IsSearch table.old search.old }
-    ensures exact { let trees = map (tree_at table.old) known.now in
+    ensures exact { let m = manner.now in
+        let s = m.style.now in
+        let trees = map (tree_at table.old) known.now in
         let view = row_view table.old row.now in
+        let line = listed_line m.bound s.lines.items told.line view told.easy in
         AreFormTerms trees → IsFormRow view → OnOk result
-        (AreAdded bound table.old table.new lines.old.items
-        (row_line view easy ++ row_hint wanted (is_some bound) trees view) lines.new.items) }
+        (AreAdded m.bound table.old table.new lines.old.items
+        (line ++ row_hint s.all m.bound told.hints trees view) lines.new.items) }
     ensures known { OnOk result (AreKnownLines table.new lines.new.items) }
     ensures extends { Extends table.old table.new }
     ensures search { OnOk result (IsSearch table.new search.new) }
-    ensures spends { Spends table.new search.old.memo search.new.memo result }
 {
-    push_row(table, bound, lines, *row, easy)?;
-    push_row_hint(table, search, bound, lines, wanted, known, row)?;
+    push_listed(table, manner, lines, *row, told)?;
+    push_row_hint(table, search, manner, lines, told.hints, known, row)?;
     Ok(())
 }
 
@@ -297,12 +371,12 @@ fn learn_at(known: &mut Vec<Id>, table: &Table, id: Id, depth: u32) -> Result<()
     Ok(())
 }
 
-/// Adds the lines of rows, whose goals have these marks in order, under the hypothesis `start`; the
-/// hint follows the first goal that isn't easy.
+/// Adds the lines of rows, whose goals have these marks in order, under the hypothesis `start`. Hints
+/// follow the first goal that isn't easy, or each, as the style says.
 pub(crate) fn push_rows(
     table: &mut Table,
     search: &mut Search,
-    bound: Option<u32>,
+    manner: &Manner,
     lines: &mut Vec<ShownLine>,
     start: Id,
     rows: &[Row],
@@ -312,31 +386,30 @@ pub(crate) fn push_rows(
     requires start { IsKnown table.old start }
     requires rows { All (HasKnownId table.old) rows.now }
     requires search { IsSearch table.old search.old }
-    ensures exact { let views = map (row_view table.old) rows.now in
+    ensures exact { let m = manner.now in
+        let views = map (row_view table.old) rows.now in
         let known = tree_at table.old start ∷ [] in
-        let added = row_lines (is_some bound) true known views marks.now in
+        let added = row_lines (style_view m.style.now) m.bound true known views marks.now in
         AreFormTerms known → AreFormRows views → OnOk result
-        (AreAdded bound table.old table.new lines.old.items added lines.new.items) }
+        (AreAdded m.bound table.old table.new lines.old.items added lines.new.items) }
     ensures known { OnOk result (AreKnownLines table.new lines.new.items) }
     ensures extends { Extends table.old table.new }
     ensures search { OnOk result (IsSearch table.new search.new) }
-    ensures spends { Spends table.new search.old.memo search.new.memo result }
 {
     let mut known = Vec::new(table.allocator());
     known.push(start)?;
     let mut due = true;
-    let mut place: usize = 0;
+    let mut goal: usize = 0;
     for index in 0..rows.len() {
         let row = rows[index];
-        let count = goal_count(table, &row);
-        let easy = mark_at(marks, place);
-        let hard = is_hard(table, &row, easy);
-        let wanted = is_wanted(due, hard);
-        let here = known.as_slice();
-        push_row_lines(table, search, bound, lines, wanted, here, &row, easy)?;
+        let at = Place { row: index, goal };
+        let line = is_listed(table, manner, rows, marks, at);
+        let easy = mark_at(marks, goal);
+        let told = told_of(table, &row, line, easy, due);
+        push_row_lines(table, search, manner, lines, told, known.as_slice(), &row)?;
         learn(&mut known, table, &row)?;
-        due = stays_due(due, hard);
-        place += count;
+        due = stays_due(manner.style.all, due, told.hard);
+        goal += goal_count(table, &row);
     }
     Ok(())
 }

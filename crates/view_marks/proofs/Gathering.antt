@@ -34,7 +34,7 @@ known_at t [] i d k low = absurd (omega (arith, low))
 known_at t (x ∷ l) zero d k low = k.0
 known_at t (x ∷ l) (suc i) d k low = known_at t l i d k.1 (omega (arith, low))
 
-trees-kept : (t u : TableView) (l : List ℕ) → AllKnown t l → Extends t u
+pub trees-kept : (t u : TableView) (l : List ℕ) → AllKnown t l → Extends t u
     → map (tree_at u) l ≡ map (tree_at t) l
 trees-kept t u [] k x = refl
 trees-kept t u (id ∷ l) k x = λ i. x.same id k.0 i ∷ trees-kept t u l k.1 x i

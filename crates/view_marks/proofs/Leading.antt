@@ -27,7 +27,7 @@ use Rattle.view_marks.specs.Hints.{missing_part}
 -- ---- by calls
 
 -- whether a proof was found
-found-easy : (u : TableView) (z : Option Tree) (o : Option ℕ) (b : Bool) → is_some o ≡ b
+pub found-easy : (u : TableView) (z : Option Tree) (o : Option ℕ) (b : Bool) → is_some o ≡ b
     → Stands u z o → is_some z ≡ b
 found-easy u z None b e s = ap is_some s ∙ e
 found-easy u z (Some id) b e s = ap is_some s.1 ∙ e

@@ -2,5 +2,9 @@ pub mod Wholes
 mod Pushing
 mod Descending
 mod Growing
-mod Gathering
+pub mod Gathering
 mod Leading
+mod Conjuncts
+mod Ahead
+mod Granting
+mod Opening

@@ -1,6 +1,6 @@
--- What is missing of a goal that isn't easy: the first formula that it conjoins which isn't, and
--- what the class of easy conditions has of that.
-use Rattle.std.specs.Prelude.{ℕ, suc, Bool, true, false, if◌then◌else◌, Option, Some, None, is_some, List, [], ◌∷◌}
+-- What is missing of a goal that isn't easy: the first formula that it conjoins which isn't, or each such
+-- formula, and what the class of easy conditions has of that.
+use Rattle.std.specs.Prelude.{ℕ, suc, Bool, true, false, if◌then◌else◌, Option, Some, None, is_some, List, [], ◌∷◌, ◌++◌}
 use Rattle.term_table.specs.Tree.{Var}
 use Rattle.word_ops.specs.declared.Rel.TheVariants.{Ult, Ule}
 use Rattle.formula_tree.specs.Formulas.{Exp, ELit, Form, FRel, FRd, FWr, FAnd, FImp, FAll}
@@ -23,6 +23,18 @@ missing_part counted Γ (FAnd A B) =
     if is_easy counted PART_BINDERS Γ A then missing_part counted Γ B
     else missing_part counted Γ A
 missing_part counted Γ A = A
+
+-- Each of the formulas that are conjoined which isn't easy, in order. What is easy as a whole has none.
+abbrev pub hard_parts : Bool → Hyps → Form → List Form
+hard_parts counted Γ (FAnd A B) =
+    if is_easy counted PART_BINDERS Γ (FAnd A B) then []
+    else hard_parts counted Γ A ++ hard_parts counted Γ B
+hard_parts counted Γ A = if is_easy counted PART_BINDERS Γ A then [] else A ∷ []
+
+-- what is missing of a goal that isn't easy: each of these formulas, or the first alone
+abbrev pub missing_parts : Bool → Bool → Hyps → Form → List Form
+missing_parts true counted Γ A = hard_parts counted Γ A
+missing_parts false counted Γ A = missing_part counted Γ A ∷ []
 
 -- what is said of it
 pub data HintView : Type 0 where

@@ -7,7 +7,7 @@
 //! Errors: out of memory, and `Results` if the search would cache more results than it may; every
 //! id keeps its tree.
 
-ghost use Rattle.std.specs.Prelude.{◌≡◌, List, [], map, IfOk, OnOk};
+ghost use Rattle.std.specs.Prelude.{◌≡◌, ◌<◌, List, [], ◌∷◌, map, false, IfOk, IfSome, OnOk};
 ghost use Rattle.term_table.specs.Tree.{Var};
 ghost use Rattle.term_table.specs.Table.{IsKnown, AllKnown, tree_at, Extends};
 ghost use Rattle.formula_tree.specs.Formulas.{Exp, Form, FRel};
@@ -18,10 +18,11 @@ ghost use Rattle.prover_class.specs.Bounds.{upper_bound, lower_bound};
 ghost use Rattle.prover_goals.specs.Search.{IsSearch, IsContext, IsAfter};
 ghost use Rattle.prover_conditions.specs.Inside.AccessIds.{access_of};
 ghost use Rattle.view_marks.specs.declared.marking.TheConstants.{PART_BINDERS};
-ghost use Rattle.view_marks.specs.Hints.{known_hyps, missing_part, Bounds, hint_of};
-ghost use Rattle.view_marks.specs.Answers.{IsHint, IsKnownHint, IsMissing, IsKnownMissing};
+ghost use Rattle.view_marks.specs.Hints.{known_hyps, missing_part, missing_parts};
+ghost use Rattle.view_marks.specs.Hints.{Bounds, hint_of};
+ghost use Rattle.view_marks.specs.Answers.{IsHint, IsKnownHint};
+ghost use Rattle.view_marks.specs.Inside.Conjuncts.{HasSides, AreHardParts};
 ghost use Rattle.view_marks.specs.Inside.Nearness.{access_at};
-ghost use Rattle.hereditary_subst.specs.Limits.{Spends, NeverResults};
 
 use crate::PART_BINDERS;
 use crate::nearness::near;
@@ -31,7 +32,8 @@ use prover_bounds::{KeptBounds, bound_words};
 use prover_conditions::proof_by_all_means;
 use prover_goals::{Context, Search};
 use prover_hyps::{Hypotheses, add_split};
-use prover_ids::{Access, FormNode, form_node};
+use prover_ids::{Access, FormNode, Sides, form_node};
+use std::alloc::AllocError;
 use term_table::{Id, Node, Table};
 use word_ops::Rel;
 
@@ -48,13 +50,13 @@ pub enum Hint {
     Rights(Vec<Id>),
 }
 
-/// What is missing to prove a goal.
-#[derive(Drop)]
-pub struct Missing {
-    /// The first conjunct of the goal that isn't easy; the last conjunct if all others are.
-    pub part: Id,
-    /// The hint about that conjunct.
-    pub hint: Hint,
+/// Which hints are asked for.
+#[derive(Clone, Copy)]
+pub struct Wanted {
+    /// Whether steps are counted.
+    pub counted: bool,
+    /// Whether each missing conjunct is wanted, or else the first alone.
+    pub all: bool,
 }
 
 /// Adds what a known formula, which has the number `k`, is split into.
@@ -67,7 +69,6 @@ fn add_formula(table: &mut Table, hyps: &mut Hypotheses, k: u32, form: Id) -> Re
         → tree_at table.old form ≡ form_encoding F → OnOk result
         (AreHyps table.new hyps.new (with_new Γ (split_hyps F (Var k)))) }
     ensures extends { Extends table.old table.new }
-    ensures memory { NeverResults result }
 {
     let proof = table.intern(Node::Var(k))?;
     add_split(table, hyps, form, proof)?;
@@ -75,13 +76,12 @@ fn add_formula(table: &mut Table, hyps: &mut Hypotheses, k: u32, form: Id) -> Re
 }
 
 /// The hypotheses that known formulas are split into.
-fn hypotheses_of(table: &mut Table, known: &[Id]) -> Result<Hypotheses, Exhausted>
+pub(crate) fn hypotheses_of(table: &mut Table, known: &[Id]) -> Result<Hypotheses, Exhausted>
     requires { AllKnown table.old known.now }
     ensures known { IfOk result (AreKnownHyps table.new) }
     ensures exact { (Fs : List Form) → map (tree_at table.old) known.now ≡ map form_encoding Fs
         → IfOk result (λ hyps. AreHyps table.new hyps (known_hyps [] 0 Fs)) }
     ensures extends { Extends table.old table.new }
-    ensures memory { NeverResults result }
 {
     let mut hyps = Hypotheses::new(table.allocator());
     for i in 0..known.len() {
@@ -112,7 +112,6 @@ fn missing_part(
         tree_at table.new id ≡ form_encoding (missing_part counted Γ A)) }
     ensures extends { Extends table.old table.new }
     ensures after { OnOk result (IsAfter table.new search.new context.old context.new) }
-    ensures spends { Spends table.new search.old.memo search.new.memo result }
 {
     match form_node(table, goal) {
         FormNode::And(a, b) => {
@@ -136,6 +135,129 @@ fn missing_part(
     }
 }
 
+/// The sides of a conjunction, if the formula is one.
+fn sides_of(table: &Table, id: Id) -> Option<Sides>
+    requires { IsKnown table.now id }
+    ensures is { (A : Form) → tree_at table.now id ≡ form_encoding A
+        → HasSides table.now A result }
+    ensures below { IfSome result (λ s. (s.left < id) × (s.right < id)) }
+{
+    match form_node(table, id) {
+        FormNode::And(left, right) => Some(Sides { left, right }),
+        FormNode::True => None,
+        FormNode::False => None,
+        FormNode::Relation(_, _, _) => None,
+        FormNode::Right(_, _) => None,
+        FormNode::Or(_, _) => None,
+        FormNode::Imp(_, _) => None,
+        FormNode::All(_) => None,
+        FormNode::AllMem(_) => None,
+    }
+}
+
+/// The formula alone.
+fn alone(table: &Table, goal: Id) -> Result<Vec<Id>, AllocError>
+    requires { IsKnown table.now goal }
+    ensures { IfOk result (λ v. v.items ≡ goal ∷ []) }
+{
+    let mut parts = Vec::new(table.allocator());
+    parts.push(goal)?;
+    Ok(parts)
+}
+
+/// Returns the conjuncts of `goal` that aren't easy, in order.
+#[tactic(auto, using(prover_goals::proofs::WordRows::rows))]
+fn hard_parts(
+    table: &mut Table,
+    search: &mut Search,
+    context: &mut Context,
+    counted: bool,
+    goal: Id,
+) -> Result<Vec<Id>, Exhausted>
+    requires goal { IsKnown table.old goal }
+    requires search { IsSearch table.old search.old }
+    requires context { IsContext table.old context.old }
+    requires outside { context.old.outside ≡ PART_BINDERS }
+    ensures known { IfOk result (λ v. AllKnown table.new v.items) }
+    ensures exact { let hyps = context.old.hyps in
+        IfOk result (λ v. AreHardParts counted table.old table.new hyps goal v.items) }
+    ensures extends { Extends table.old table.new }
+    ensures after { OnOk result (IsAfter table.new search.new context.old context.new) }
+{
+    search.spend_steps(1)?;
+    let proof = proof_by_all_means(table, search, context, counted, goal)?;
+    if proof.is_some() {
+        return Ok(Vec::new(table.allocator()));
+    }
+    match sides_of(table, goal) {
+        None => {
+            let whole = alone(table, goal)?;
+            Ok(whole)
+        }
+        Some(sides) => {
+            let mut parts = hard_parts(table, search, context, counted, sides.left)?;
+            let others = hard_parts(table, search, context, counted, sides.right)?;
+            parts.extend_from_slice(others.as_slice())?;
+            Ok(parts)
+        }
+    }
+}
+
+/// Returns the first conjunct of `goal` that isn't easy, alone.
+#[tactic(auto, using(prover_goals::proofs::Kept::rows))]
+fn first_part(
+    table: &mut Table,
+    search: &mut Search,
+    context: &mut Context,
+    counted: bool,
+    goal: Id,
+) -> Result<Vec<Id>, Exhausted>
+    requires goal { IsKnown table.old goal }
+    requires search { IsSearch table.old search.old }
+    requires context { IsContext table.old context.old }
+    requires outside { context.old.outside ≡ PART_BINDERS }
+    ensures known { IfOk result (λ v. AllKnown table.new v.items) }
+    ensures exact { (Γ : Hyps) (A : Form) → AreHyps table.old context.old.hyps Γ
+        → tree_at table.old goal ≡ form_encoding A → IfOk result (λ v.
+        map (tree_at table.new) v.items ≡ map form_encoding (missing_parts false counted Γ A)) }
+    ensures extends { Extends table.old table.new }
+    ensures search { OnOk result (IsSearch table.new search.new) }
+{
+    let part = missing_part(table, search, context, counted, goal)?;
+    let parts = alone(table, part)?;
+    Ok(parts)
+}
+
+/// Returns the missing conjuncts of `goal`: all, or the first alone.
+#[tactic(auto, using(prover_goals::proofs::Kept::rows))]
+fn parts_in(
+    table: &mut Table,
+    search: &mut Search,
+    context: &mut Context,
+    wanted: Wanted,
+    goal: Id,
+) -> Result<Vec<Id>, Exhausted>
+    requires goal { IsKnown table.old goal }
+    requires search { IsSearch table.old search.old }
+    requires context { IsContext table.old context.old }
+    requires outside { context.old.outside ≡ PART_BINDERS }
+    ensures known { IfOk result (λ v. AllKnown table.new v.items) }
+    ensures exact { (Γ : Hyps) (A : Form) → AreHyps table.old context.old.hyps Γ
+        → tree_at table.old goal ≡ form_encoding A → IfOk result (λ v.
+        map (tree_at table.new) v.items
+        ≡ map form_encoding (missing_parts wanted.all wanted.counted Γ A)) }
+    ensures extends { Extends table.old table.new }
+    ensures search { OnOk result (IsSearch table.new search.new) }
+{
+    let all = wanted.all;
+    if all {
+        let hard = hard_parts(table, search, context, wanted.counted, goal)?;
+        return Ok(hard);
+    }
+    let first = first_part(table, search, context, wanted.counted, goal)?;
+    Ok(first)
+}
+
 /// The bounds that are found of both sides of a comparison.
 #[tactic(auto, using(prover_goals::proofs::Kept::rows))]
 fn bounds_hint(
@@ -156,7 +278,6 @@ fn bounds_hint(
         → IfOk result (IsHint table.now
         (Bounds (upper_bound Γ x).value (lower_bound counted Γ y).value)) }
     ensures search { OnOk result (IsSearch table.now search.new) }
-    ensures spends { Spends table.now search.old.memo search.new.memo result }
 {
     let mut kept = KeptBounds::new(table.allocator());
     let hyps = context.hyps.as_slice();
@@ -185,7 +306,6 @@ fn relation_hint(
         → tree_at table.now a ≡ exp_encoding x → tree_at table.now b ≡ exp_encoding y
         → IfOk result (IsHint table.now (hint_of counted Γ (FRel rel x y))) }
     ensures search { OnOk result (IsSearch table.now search.new) }
-    ensures spends { Spends table.now search.old.memo search.new.memo result }
 {
     match rel {
         Rel::Ult => bounds_hint(table, search, context, counted, a, b),
@@ -224,7 +344,6 @@ fn hint_of(
         → IfOk result (IsHint table.new (hint_of counted Γ A)) }
     ensures extends { Extends table.old table.new }
     ensures search { OnOk result (IsSearch table.new search.new) }
-    ensures spends { Spends table.new search.old.memo search.new.memo result }
 {
     match form_node(table, part) {
         FormNode::Relation(rel, a, b) => {
@@ -247,35 +366,65 @@ fn hint_of(
     }
 }
 
-/// Returns what is missing to prove `goal` under the hypotheses `known`: the first conjunct that
-/// isn't easy, and a hint. `known` and `goal` are from a part over the machine's variables, with
-/// `PART_BINDERS` binders outside. `counted` says whether steps are counted.
+/// Returns what is missing to prove `goal` under the hypotheses `known`: each conjunct that isn't
+/// easy, in order, or the first alone, as `wanted` says. `known` and `goal` are from a part over the
+/// machine's variables, with `PART_BINDERS` binders outside.
 ///
 /// Errors: out of memory, also if there are 2^32 hypotheses, and `Results` if `search` would cache
 /// more than it may; every id keeps its tree.
 #[tactic(auto, using(prover_goals::proofs::Kept::rows))]
-pub fn missing_of(
+pub fn missing_parts(
     table: &mut Table,
     search: &mut Search,
-    counted: bool,
+    wanted: Wanted,
     known: &[Id],
     goal: Id,
-) -> Result<Missing, Exhausted>
+) -> Result<Vec<Id>, Exhausted>
     requires known { AllKnown table.old known.now }
     requires goal { IsKnown table.old goal }
     requires search { IsSearch table.old search.old }
     ensures exact { (Fs : List Form) (A : Form)
         → map (tree_at table.old) known.now ≡ map form_encoding Fs
-        → tree_at table.old goal ≡ form_encoding A
-        → IfOk result (IsMissing table.new counted Fs A) }
-    ensures known { IfOk result (IsKnownMissing table.new) }
+        → tree_at table.old goal ≡ form_encoding A → IfOk result (λ v.
+        map (tree_at table.new) v.items
+        ≡ map form_encoding (missing_parts wanted.all wanted.counted (known_hyps [] 0 Fs) A)) }
+    ensures known { IfOk result (λ v. AllKnown table.new v.items) }
     ensures extends { Extends table.old table.new }
     ensures search { OnOk result (IsSearch table.new search.new) }
-    ensures spends { Spends table.new search.old.memo search.new.memo result }
 {
     let hyps = hypotheses_of(table, known)?;
     let mut context = Context::new(table, PART_BINDERS, hyps)?;
-    let part = missing_part(table, search, &mut context, counted, goal)?;
+    let parts = parts_in(table, search, &mut context, wanted, goal)?;
+    Ok(parts)
+}
+
+/// Returns the hint about a missing conjunct `part` under the hypotheses `known`. `known` and `part`
+/// are from a part over the machine's variables, with `PART_BINDERS` binders outside. `counted` says
+/// whether steps are counted.
+///
+/// Errors: as for `missing_parts`.
+#[tactic(auto, using(prover_goals::proofs::Kept::rows))]
+pub fn hint_about(
+    table: &mut Table,
+    search: &mut Search,
+    counted: bool,
+    known: &[Id],
+    part: Id,
+) -> Result<Hint, Exhausted>
+    requires known { AllKnown table.old known.now }
+    requires part { IsKnown table.old part }
+    requires search { IsSearch table.old search.old }
+    ensures exact { (Fs : List Form) (A : Form)
+        → map (tree_at table.old) known.now ≡ map form_encoding Fs
+        → tree_at table.old part ≡ form_encoding A
+        → IfOk result (IsHint table.new (hint_of counted (known_hyps [] 0 Fs) A)) }
+    ensures known { IfOk result (IsKnownHint table.new) }
+    ensures extends { Extends table.old table.new }
+    ensures search { OnOk result (IsSearch table.new search.new) }
+{
+    search.spend_steps(known.len() as u64)?;
+    let hyps = hypotheses_of(table, known)?;
+    let context = Context::new(table, PART_BINDERS, hyps)?;
     let hint = hint_of(table, search, &context, counted, part)?;
-    Ok(Missing { part, hint })
+    Ok(hint)
 }

@@ -14,7 +14,6 @@ ghost use Rattle.view_marks.specs.Marks.{part_form, part_marks};
 ghost use Rattle.view_marks.specs.Inside.Marking.{AreAllEasy, AreMarked, ArePartsMarked};
 ghost use Rattle.view_marks.specs.Inside.Marking.{AreBothMarked, AreUnderMarked, IsPartMarked};
 ghost use Rattle.view_marks.specs.Inside.Marking.{unquantified};
-ghost use Rattle.hereditary_subst.specs.Limits.{Spends};
 
 use hereditary_subst::Exhausted;
 use prover_conditions::proof_by_all_means;
@@ -72,7 +71,6 @@ fn push_marks<'a>(
         rows.now marks.old.items marks.new.items rest.now) }
     ensures extends { Extends table.old table.new }
     ensures after { OnOk result (IsAfter table.new search.new context.old context.new) }
-    ensures spends { Spends table.new search.old.memo search.new.memo result }
 {
     let proof = proof_by_all_means(table, search, context, counted, goal)?;
     if proof.is_some() {
@@ -103,7 +101,6 @@ fn push_parts<'a>(
         rows.now marks.old.items marks.new.items rest.now) }
     ensures extends { Extends table.old table.new }
     ensures after { OnOk result (IsAfter table.new search.new context.old context.new) }
-    ensures spends { Spends table.new search.old.memo search.new.memo result }
 {
     match rows {
         [] => Ok(rows),
@@ -138,7 +135,6 @@ fn push_both<'a>(
         rows.now marks.old.items marks.new.items rest.now) }
     ensures extends { Extends table.old table.new }
     ensures after { OnOk result (IsAfter table.new search.new context.old context.new) }
-    ensures spends { Spends table.new search.old.memo search.new.memo result }
 {
     match form_node(table, goal) {
         FormNode::And(a, b) => {
@@ -169,7 +165,6 @@ fn push_under<'a>(
         rows.now marks.old.items marks.new.items rest.now) }
     ensures extends { Extends table.old table.new }
     ensures after { OnOk result (IsAfter table.new search.new context.old context.new) }
-    ensures spends { Spends table.new search.old.memo search.new.memo result }
 {
     match form_node(table, goal) {
         FormNode::Imp(a, b) => {
@@ -211,7 +206,6 @@ fn push_part(
         (IsPartMarked counted table.old inner rows.now marks.old.items marks.new.items) }
     ensures extends { Extends table.old table.new }
     ensures search { OnOk result (IsSearch table.new search.new) }
-    ensures spends { Spends table.new search.old.memo search.new.memo result }
 {
     let none = Hypotheses::new(table.allocator());
     let mut context = Context::new(table, PART_BINDERS, none)?;
@@ -244,7 +238,6 @@ pub fn marks_of(
         → IfOk result (λ v. v.items ≡ part_marks counted p) }
     ensures extends { Extends table.old table.new }
     ensures search { OnOk result (IsSearch table.new search.new) }
-    ensures spends { Spends table.new search.old.memo search.new.memo result }
 {
     let mut marks = Vec::new(table.allocator());
     let inner = under_quantifiers(table, part.formula);

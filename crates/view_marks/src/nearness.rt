@@ -12,7 +12,6 @@ ghost use Rattle.prover_class.specs.Hypotheses.{Hyps};
 ghost use Rattle.prover_goals.specs.Search.{IsSearch};
 ghost use Rattle.view_marks.specs.Hints.{near};
 ghost use Rattle.view_marks.specs.Inside.Nearness.{access_at, IsNear, IsBodyNear, AreReached};
-ghost use Rattle.hereditary_subst.specs.Limits.{Spends};
 
 use crate::reached::{Asked, Reach, is_asked, is_reached};
 use crate::sums::is_like;
@@ -41,7 +40,6 @@ fn is_body_near(
     ensures extends { Extends table.old table.new }
     ensures search { OnOk result (IsSearch table.new search.new) }
     ensures kept { OnOk result (AreReached table.new kept.new) }
-    ensures spends { Spends table.new search.old.memo search.new.memo result }
 {
     match form_node(table, body) {
         FormNode::Imp(_, conclusion) => {
@@ -76,7 +74,6 @@ fn is_near(
     ensures extends { Extends table.old table.new }
     ensures search { OnOk result (IsSearch table.new search.new) }
     ensures kept { OnOk result (AreReached table.new kept.new) }
-    ensures spends { Spends table.new search.old.memo search.new.memo result }
 {
     match form_node(table, form) {
         FormNode::Right(given, z) => {
@@ -133,7 +130,6 @@ pub(crate) fn near(
         ≡ map form_encoding (near (access_at asked.now.store) a Γ)) }
     ensures extends { Extends table.old table.new }
     ensures search { OnOk result (IsSearch table.new search.new) }
-    ensures spends { Spends table.new search.old.memo search.new.memo result }
 {
     let alloc = table.allocator();
     let mut found = Vec::new(alloc);

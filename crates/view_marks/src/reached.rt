@@ -39,7 +39,6 @@ impl Question for Reach {
     ghost use Rattle.std.proofs.Common.{rules};
     ghost use Rattle.view_marks.specs.Inside.Nearness.{IsReach};
     ghost use Rattle.view_marks.specs.Inside.Lasting.{reach-lasts};
-ghost use Rattle.hereditary_subst.specs.Limits.{Spends};
 
     type Answer = bool;
 
@@ -80,7 +79,6 @@ pub(crate) fn is_reached(
     ensures extends { Extends table.old table.new }
     ensures search { OnOk result (IsSearch table.new search.new) }
     ensures kept { OnOk result (AreReached table.new kept.new) }
-    ensures spends { Spends table.new search.old.memo search.new.memo result }
 {
     let question = Reach {
         store: asked.store,
@@ -116,7 +114,6 @@ fn is_reached_in_parts(
     ensures extends { Extends table.old table.new }
     ensures search { OnOk result (IsSearch table.new search.new) }
     ensures kept { OnOk result (AreReached table.new kept.new) }
-    ensures spends { Spends table.new search.old.memo search.new.memo result }
 {
     match form_node(table, form) {
         FormNode::And(a, b) => {
@@ -162,7 +159,6 @@ fn is_reached_in_both(
     ensures extends { Extends table.old table.new }
     ensures search { OnOk result (IsSearch table.new search.new) }
     ensures kept { OnOk result (AreReached table.new kept.new) }
-    ensures spends { Spends table.new search.old.memo search.new.memo result }
 {
     if is_reached(table, search, kept, asked, instance, a)? {
         return Ok(true);

@@ -13,7 +13,6 @@ ghost use Rattle.prover_sums.specs.Sums.{IsExpOption};
 ghost use Rattle.prover_goals.specs.Search.{IsSearch};
 ghost use Rattle.view_marks.specs.Hints.{address_sum, has_summands, has_instance};
 ghost use Rattle.view_marks.specs.Inside.Nearness.{is_like};
-ghost use Rattle.hereditary_subst.specs.Limits.{Spends};
 
 use crate::PART_BINDERS;
 use hereditary_subst::Exhausted;
@@ -35,7 +34,6 @@ fn sum_rest(table: &mut Table, search: &mut Search, a: Id, z: Id) -> Result<Opti
         → IfOk result (IsExpOption table.new (rest_of (address_sum x) (address_sum y))) }
     ensures extends { Extends table.old table.new }
     ensures search { OnOk result (IsSearch table.new search.new) }
-    ensures spends { Spends table.new search.old.memo search.new.memo result }
 {
     let of_a = normal_exp(table, search, PART_BINDERS, a)?;
     let of_z = normal_exp(table, search, PART_BINDERS, z)?;
@@ -55,7 +53,6 @@ fn has_summands(table: &mut Table, search: &mut Search, a: Id, z: Id) -> Result<
         → tree_at table.old z ≡ exp_encoding y → IfOk result (λ b. b ≡ has_summands x y) }
     ensures extends { Extends table.old table.new }
     ensures search { OnOk result (IsSearch table.new search.new) }
-    ensures spends { Spends table.new search.old.memo search.new.memo result }
 {
     match sum_rest(table, search, a, z)? {
         None => Ok(false),
@@ -72,7 +69,6 @@ fn at_zero(table: &mut Table, search: &mut Search, z: Id, zero: Id) -> Result<Id
     ensures put { IfOk result (IsExpPut table.old table.new z 0 zero) }
     ensures extends { Extends table.old table.new }
     ensures search { OnOk result (IsSearch table.new search.new) }
-    ensures spends { Spends table.new search.old.memo search.new.memo result }
 {
     put_word_exp(table, &mut search.memo, &mut search.puts, z, zero)
 }
@@ -87,7 +83,6 @@ fn has_instance(table: &mut Table, search: &mut Search, a: Id, z: Id) -> Result<
         → tree_at table.old z ≡ exp_encoding y → IfOk result (λ b. b ≡ has_instance x y) }
     ensures extends { Extends table.old table.new }
     ensures search { OnOk result (IsSearch table.new search.new) }
-    ensures spends { Spends table.new search.old.memo search.new.memo result }
 {
     let zero = table.intern(Node::Lit(0))?;
     let start = at_zero(table, search, z, zero)?;
@@ -112,7 +107,6 @@ pub(crate) fn is_like(
         → tree_at table.old z ≡ exp_encoding y → IfOk result (λ b. b ≡ is_like instance x y) }
     ensures extends { Extends table.old table.new }
     ensures search { OnOk result (IsSearch table.new search.new) }
-    ensures spends { Spends table.new search.old.memo search.new.memo result }
 {
     if instance {
         let like = has_instance(table, search, a, z)?;

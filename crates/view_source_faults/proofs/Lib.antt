@@ -4,3 +4,4 @@ pub mod FaultLines
 pub mod SourceSaid
 pub mod WrongFound
 pub mod Marked
+pub mod Codes

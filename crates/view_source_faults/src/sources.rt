@@ -163,7 +163,7 @@ fn asm_flaw_lines(alloc: Global, text: &[u8], flaw: AsmFlaw) -> Result<Vec<u8>, 
 
 /// Parses the text as a source in the profile of the version; invariants may name the remaining
 /// steps if there is a bound. Errors: the first fault.
-fn source_in(
+pub(crate) fn source_in(
     alloc: Global,
     version: u32,
     bound: Option<u32>,

@@ -1,13 +1,10 @@
 -- `list FILE [SOURCE]`
-use Rattle.std.specs.Prelude.{ℕ, List, [], map, is_some, Option, Some, None, Result, Ok, Err}
-use Rattle.asm_text.specs.declared.fault.LineFlaw.{LineFlaw}
-use Rattle.asm_text.specs.Names.{line_flaw_name}
-use Rattle.asm_text.specs.Sources.{Source}
-use Rattle.asm_text.specs.SourceParsing.{parsed_source}
+use Rattle.std.specs.Prelude.{ℕ, List, Option, Some, None, Result, Ok, Err}
 use Rattle.proof_container.specs.Contents.{Contents}
 use Rattle.proof_container.specs.Decoding.{Fault, decoded_container}
-use Rattle.proof_container.specs.Versions.{profile_of}
+use Rattle.view_container.specs.Beside.{BesideView, nothing_beside}
 use Rattle.view_container.specs.Listing.{listing_text}
+use Rattle.view_source_faults.specs.SourceCode.{LinesAndCode, WrongLine, source_code}
 use Rattle.pcc_lines.specs.Sources.{source_fault_line}
 use Rattle.pcc_stages.specs.Exits.{Exit}
 use Rattle.pcc_stages.specs.Runs.{done_exit}
@@ -21,27 +18,25 @@ use Rattle.view_looks.specs.Looks.{look_of, no_container_text}
 abbrev pub unlisted_exit : List ℕ → Fault → Exit
 unlisted_exit bytes fault = refused (no_container_text fault.0 fault.1 (look_of bytes))
 
--- the lines of the instructions of what was read as a source
-abbrev pub lines_found : Result Source (ℕ × LineFlaw) → Stage (List ℕ)
-lines_found (Ok source) = gives (map (λ insn. insn.0) source.insns)
-lines_found (Err fault) = stops (refused (source_fault_line fault.0 (line_flaw_name fault.1)))
+-- a source beside a container, by its code
+abbrev pub beside_found : Result LinesAndCode WrongLine → Stage BesideView
+beside_found (Ok source) = gives (record { lines = source.0; code = Some source.1 })
+beside_found (Err wrong) = stops (refused (source_fault_line wrong.0 wrong.1))
 
--- the lines of the instructions of the source that the text spells, for a container of this version
--- and with this bound
-unfoldable pub lines_in : ℕ → Option ℕ → List ℕ → Stage (List ℕ)
-lines_in version bound text =
-    lines_found (parsed_source (profile_of version) (is_some bound) text)
+-- the source that the text spells, beside a container of this version and with this bound
+unfoldable pub beside_in : ℕ → Option ℕ → List ℕ → Stage BesideView
+beside_in version bound text = beside_found (source_code version bound text)
 
--- the same of the file of the name, if there is one
-unfoldable pub source_lines_of : ℕ → Option ℕ → Option (List ℕ) → Stage (List ℕ)
-source_lines_of version bound None = gives []
-source_lines_of version bound (Some name) = text_of name >>= lines_in version bound
+-- the source in the file of the name, if there is one
+unfoldable pub source_beside : ℕ → Option ℕ → Option (List ℕ) → Stage BesideView
+source_beside version bound None = gives nothing_beside
+source_beside version bound (Some name) = text_of name >>= beside_in version bound
 
 -- the source and what is wrong with it, and the listing of a container
 abbrev pub listing_beside : Option (List ℕ) → Contents → Stage Exit
 listing_beside source c = do
-  lines ← source_lines_of c.version c.bound source
-  gives (done_exit (listing_text c lines))
+  beside ← source_beside c.version c.bound source
+  gives (done_exit (listing_text c beside))
 
 -- the same of what bytes were read as, or what they look like
 abbrev pub listing_in : Option (List ℕ) → List ℕ → Result Contents Fault → Stage Exit

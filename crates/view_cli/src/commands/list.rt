@@ -1,6 +1,6 @@
 //! `list FILE [SOURCE]`: shows a container as a source, or what a file looks like that is none.
 
-ghost use Rattle.std.specs.Prelude.{◌≡◌, ◌≤◌, length, map, option_map, Ok, IfOk};
+ghost use Rattle.std.specs.Prelude.{◌≡◌, ◌≤◌, length, option_map, Ok, IfOk};
 ghost use Rattle.asm_text.specs.declared.limits.TheConstants.{MAX_SOURCE};
 ghost use Rattle.proof_container.specs.Contents.{Contents};
 ghost use Rattle.proof_container.specs.Decoding.{decoded_container};
@@ -9,22 +9,24 @@ ghost use Rattle.pcc_stages.specs.Runs.{done_exit};
 ghost use Rattle.pcc_stages.specs.Stage.{gives};
 ghost use Rattle.pcc_stages.specs.Answers.{Gives, GivesPure};
 ghost use Rattle.pcc_stages.specs.declared.files.TheConstants.{MAX_FILE};
-ghost use Rattle.view_cli.specs.Commands.List.{lines_in, source_lines_of, unlisted_exit};
+ghost use Rattle.proof_container.specs.Versions.{IsVersion, IsBoundOf};
+ghost use Rattle.view_container.specs.Views.{beside_view};
+ghost use Rattle.view_cli.specs.Commands.List.{beside_in, source_beside, unlisted_exit};
 ghost use Rattle.view_cli.specs.Commands.List.{listing_beside, listing_in, list_command};
-ghost use Rattle.view_cli.specs.Inside.Founds.{IsFoundIn};
+ghost use Rattle.view_cli.specs.Inside.Founds.{IsFoundIn, beside_source};
 ghost use Rattle.view_cli.specs.Reports.{exit_of_report};
 
 use crate::ListArgs;
 use crate::commands::faults::text_of;
 use crate::report::Report;
-use asm_text::{LineFault, SrcInsn, read_source};
 use file_port::Files;
 use pcc_gate::Refusal;
 use pcc_stages::{MAX_FILE, RefusedLine, Stop, bytes_of};
-use proof_container::{Flaw, Malformed, profile_of, read};
+use proof_container::{Flaw, Malformed, read};
 use std::alloc::{AllocError, Global};
-use view_container::{ListFault, list};
+use view_container::{Beside, ListFault, list};
 use view_looks::look_of;
+use view_source_faults::{CodeFault, SourceCode, source_code};
 
 /// What bytes are found to be that were read as a container.
 #[derive(Clone, Copy, Debug, PartialEq, Eq)]
@@ -35,8 +37,8 @@ pub enum Found {
     Not(u64, Flaw),
 }
 
-/// What the bytes are found to be. Errors: out of memory.
-fn found_in(alloc: Global, bytes: &[u8]) -> Result<Found, AllocError>
+/// Returns what the bytes are found to be. Errors: out of memory.
+pub fn found_in(alloc: Global, bytes: &[u8]) -> Result<Found, AllocError>
     ensures { IfOk result (IsFoundIn bytes.now) }
 {
     match read(alloc, bytes) {
@@ -61,66 +63,73 @@ fn unlisted<'a>(alloc: Global, offset: u64, flaw: Flaw, bytes: &[u8]) -> Result<
     }
 }
 
-/// The numbers of the lines of instructions.
-fn line_numbers(alloc: Global, insns: &[(u32, SrcInsn)]) -> Result<Vec<u32>, AllocError>
-    ensures { IfOk result (λ lines. lines.items ≡ map (λ insn. insn.0) insns.now) }
-{
-    let mut lines = Vec::new(alloc);
-    for (line, _) in insns {
-        lines.push(*line)?;
-    }
-    Ok(lines)
-}
-
-/// The lines of the instructions of the source that the text spells, for a container of this
-/// version and with this bound.
-#[tactic(auto, unfolding(crate::specs::Commands::List::lines_in))]
-fn lines_in<'a>(
+/// The source that the text spells, for a container of this version and with this bound.
+#[tactic(auto, unfolding(crate::specs::Commands::List::beside_in))]
+fn source_in<'a>(
     alloc: Global,
     version: u32,
     bound: Option<u32>,
     text: &[u8],
-) -> Result<Vec<u32>, Stop<'a>>
-    requires { length text.now ≤ MAX_SOURCE }
-    ensures { GivesPure (λ lines. lines.items) (lines_in version bound text.now) result }
+) -> Result<Option<SourceCode>, Stop<'a>>
+    requires text { length text.now ≤ MAX_SOURCE }
+    requires version { IsVersion version }
+    requires bound { IsBoundOf version bound }
+    ensures { GivesPure beside_source (beside_in version bound text.now) result }
 {
-    match read_source(alloc, text, profile_of(version), bound.is_some()) {
-        Ok(source) => match line_numbers(alloc, &source.insns) {
-            Ok(lines) => Ok(lines),
-            Err(_) => Err(Stop::Memory),
-        },
-        Err(LineFault::At(line, flaw)) => Err(Stop::Refused(RefusedLine::BadLine(line, flaw))),
-        Err(LineFault::Memory) => Err(Stop::Memory),
+    match source_code(alloc, version, bound, text) {
+        Ok(source) => Ok(Some(source)),
+        Err(CodeFault::Line(line, flaw)) => Err(Stop::Refused(RefusedLine::BadLine(line, flaw))),
+        Err(CodeFault::Assembling(flaw)) => Err(Stop::Refused(RefusedLine::BadSource(flaw))),
+        Err(CodeFault::Memory) => Err(Stop::Memory),
     }
 }
 
-/// Returns the line numbers of the source in the file with this name, or none if no name is given.
-#[tactic(auto, unfolding(crate::specs::Commands::List::source_lines_of))]
-fn lines_of<'a, F: Files>(
+/// Returns the source in the file with this name, or none if no name is given.
+#[tactic(auto, unfolding(crate::specs::Commands::List::source_beside))]
+pub fn source_of<'a, F: Files>(
     alloc: Global,
     version: u32,
     bound: Option<u32>,
     name: Option<&'a str>,
     files: &mut F,
-) -> Result<Vec<u32>, Stop<'a>>
-    ensures { Gives (λ lines. lines.items)
-        (source_lines_of version bound (option_map (λ n. n.now) name.entry))
+) -> Result<Option<SourceCode>, Stop<'a>>
+    requires version { IsVersion version }
+    requires bound { IsBoundOf version bound }
+    ensures { Gives beside_source
+        (source_beside version bound (option_map (λ n. n.now) name.entry))
         (F.log files.old) (F.log files.new) (F.state files.old) (F.state files.new) result }
 {
     let Some(name) = name else {
-        return Ok(Vec::new(alloc));
+        return Ok(None);
     };
     let text = text_of(alloc, name, files)?;
-    lines_in(alloc, version, bound, &text)
+    source_in(alloc, version, bound, &text)
+}
+
+/// The source, if there is one, as it is listed beside a container.
+fn beside(source: &Option<SourceCode>) -> Beside<'_>
+    ensures { beside_view result ≡ beside_source source.now }
+{
+    match source {
+        None => Beside {
+            lines: &[],
+            code: None,
+        },
+        Some(source) => Beside {
+            lines: &source.lines,
+            code: Some(&source.code),
+        },
+    }
 }
 
 /// The listing of the container that the bytes are.
-fn listed<'a>(alloc: Global, bytes: &[u8], lines: &[u32]) -> Result<Report, Stop<'a>>
+fn listed<'a>(alloc: Global, bytes: &[u8], source: &Option<SourceCode>) -> Result<Report, Stop<'a>>
     requires { length bytes.now ≤ MAX_FILE }
     ensures { (c : Contents) → decoded_container bytes.now ≡ Ok c
-        → GivesPure exit_of_report (gives (done_exit (listing_text c lines.now))) result }
+        → GivesPure exit_of_report (gives (done_exit (listing_text c (beside_source source.now))))
+        result }
 {
-    match list(alloc, bytes, lines) {
+    match list(alloc, bytes, beside(source)) {
         Ok(text) => Ok(Report::Text(text)),
         Err(ListFault::TooLong(_)) => Err(Stop::Refused(RefusedLine::ContainerTooLong)),
         Err(ListFault::Malformed(offset, flaw)) => Err(Stop::Refused(RefusedLine::Container(
@@ -140,14 +149,16 @@ fn listed_beside<'a, F: Files>(
     source: Option<&'a str>,
     files: &mut F,
 ) -> Result<Report, Stop<'a>>
-    requires { length bytes.now ≤ MAX_FILE }
+    requires bytes { length bytes.now ≤ MAX_FILE }
+    requires version { IsVersion version }
+    requires bound { IsBoundOf version bound }
     ensures { (c : Contents) → decoded_container bytes.now ≡ Ok c → c.version ≡ version
         → c.bound ≡ bound
         → Gives exit_of_report (listing_beside (option_map (λ n. n.now) source.entry) c)
         (F.log files.old) (F.log files.new) (F.state files.old) (F.state files.new) result }
 {
-    let lines = lines_of(alloc, version, bound, source, files)?;
-    listed(alloc, bytes, &lines)
+    let source = source_of(alloc, version, bound, source, files)?;
+    listed(alloc, bytes, &source)
 }
 
 /// Reads the source if it is given, and lists the container that the bytes are, if they are one.

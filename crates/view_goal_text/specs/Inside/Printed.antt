@@ -5,24 +5,25 @@ use Rattle.view_goals.specs.declared.rows.PartRows.{PartRows}
 use Rattle.view_goals.specs.Goals.{PartGoals}
 use Rattle.view_goals.specs.Rows.{part_view}
 use Rattle.view_marks.specs.Marks.{part_marks, all_true}
-use Rattle.view_goal_text.specs.declared.lines.ShownLine.{ShownLine}
+use Rattle.view_lines.specs.declared.lines.ShownLine.{ShownLine}
 use Rattle.view_goal_text.specs.Listing.{view_lines, view_of, parts_lines, first_hard}
-use Rattle.view_goal_text.specs.Inside.Shown.{AreAdded}
+use Rattle.view_goal_text.specs.Styles.{StyleView}
+use Rattle.view_lines.specs.Shown.{AreAdded}
 
 -- the lines of whatever part it shows were added, as the part of number k, and it says whether each
 -- goal is easy
-abbrev pub IsPartPrinted : Option ℕ → ℕ → TableView → TableView → PartRows → List ShownLine
+abbrev pub IsPartPrinted : StyleView → Option ℕ → ℕ → TableView → TableView → PartRows → List ShownLine
     → List ShownLine → Bool → Type 0
-IsPartPrinted bound k t u part old new easy =
+IsPartPrinted s bound k t u part old new easy =
     (p : PartGoals) → part_view t part ≡ view_of bound p
     → AreAdded bound t u old
-    (view_lines (is_some bound) k (view_of bound p) (part_marks (is_some bound) p)) new
+    (view_lines s bound k (view_of bound p) (part_marks (is_some bound) p)) new
     × (easy ≡ all_true (part_marks (is_some bound) p))
 
 -- the lines of whatever parts they show were added, from number k on, and it names the first that
 -- has a goal that isn't easy
-abbrev pub ArePartsPrinted : Option ℕ → ℕ → TableView → TableView → List PartRows
+abbrev pub ArePartsPrinted : StyleView → Option ℕ → ℕ → TableView → TableView → List PartRows
     → List ShownLine → List ShownLine → Option ℕ → Type 0
-ArePartsPrinted bound k t u parts old new found =
+ArePartsPrinted s bound k t u parts old new found =
     (ps : List PartGoals) → map (part_view t) parts ≡ map (view_of bound) ps
-    → AreAdded bound t u old (parts_lines bound k ps) new × (found ≡ first_hard bound k ps)
+    → AreAdded bound t u old (parts_lines s bound k ps) new × (found ≡ first_hard bound k ps)

@@ -25,6 +25,7 @@ returns g c =
     let laws : ViewLaws = record {
       contents = c.laws.ensures.decided;
       listed = c.laws-2.ensures.source;
+      same = c.laws-2.ensures.same;
       policies = c.laws-3.ensures.spelled;
       forms = c.laws-4.ensures.parsed;
       form_faults = c.laws-4.ensures.fault;

@@ -1,4 +1,4 @@
-use Rattle.std.proofs.Common.{◌≡◌, ℕ, List, map, Result, sym, ap, ◌∙◌, subst}
+use Rattle.std.proofs.Common.{◌≡◌, ℕ, List, ◌++◌, map, Result, sym, ap, ◌∙◌, subst}
 use Rattle.std.specs.List.{AllByRecursion}
 use Rattle.term_table.specs.Tree.{Tree}
 use Rattle.term_table.specs.Table.{IsKnown, id_trees}
@@ -10,6 +10,8 @@ use Rattle.pcc_gate.proofs.Kept.{known-more, trees-same}
 use Rattle.asm_print.specs.Listing.{code_text}
 use Rattle.asm_print.specs.Views.{invs_view}
 use Rattle.view_container.specs.declared.stop.NoSource.{NoSource}
+use Rattle.view_container.specs.Beside.{notes_beside}
+use Rattle.view_container.specs.Views.{beside_view}
 use Rattle.view_container.specs.Notes.{notes_of}
 use Rattle.view_container.specs.Sources.{extras_of, extras_with, if_forms, if_short, if_whole, source_listing}
 use Rattle.view_container.specs.Answers.{IsReason, Finds}
@@ -45,7 +47,7 @@ pub returns-in_err-invs : goal.returns-in_err-invs
 returns-in_err-invs c =
     let k = c.args.container in
     let u = c.formed.new.table in
-    let lines = c.args.lines.now in
+    let beside = beside_view c.args.beside in
     let code = c.in_ok-code.code in
     let e = c.in_err-invs.field-0.0 in
     let same = trees-same k.table u k.invs.items c.in_ok-formed.ensures.extends
@@ -55,10 +57,10 @@ returns-in_err-invs c =
     c.in_err-invs.ensures in
     let forms = sym (λ i. if_forms (c.signature_of-signature.ensures.exact i) k.bound
     (id_trees k.table (c.deref.ensures.value i))) ∙ c.in_ok-formed.ensures.answer in
-    let rest = source-rest (contents_of k) lines code c.in_ok-code.ensures c.in_ok-low.ensures forms in
+    let rest = source-rest (contents_of k) beside code c.in_ok-code.ensures c.in_ok-low.ensures forms in
     let reason = reason-first (if_short (formulas (contents_of k).invs))
-    (λ invs. if_whole (code_text (extras_of (contents_of k) lines) code invs)) e short in
-    carried (λ v. v.items) (source_listing (contents_of k) lines) e
+    (λ invs. if_whole (code_text (extras_of (contents_of k) beside) code invs)) e short in
+    carried (λ v. v.items) (source_listing (contents_of k) beside) e
     (subst (λ (r : Result (List ℕ) NoSource). IsReason r e) (sym rest) reason)
     c.from_residual-in_err-invs.result c.from_residual-in_err-invs.ensures.1
 
@@ -66,7 +68,7 @@ pub returns : goal.returns
 returns c =
     let k = c.args.container in
     let u = c.formed.new.table in
-    let lines = c.args.lines.now in
+    let beside = beside_view c.args.beside in
     let code = c.in_ok-code.code in
     let same = trees-same k.table u k.invs.items c.in_ok-formed.ensures.extends
     c.requires.canonical.known.0 in
@@ -74,12 +76,12 @@ returns c =
     let found = ap (λ l. if_short (formulas l)) there ∙ c.in_ok-invs.ensures in
     let forms = sym (λ i. if_forms (c.signature_of-signature.ensures.exact i) k.bound
     (id_trees k.table (c.deref.ensures.value i))) ∙ c.in_ok-formed.ensures.answer in
-    let rest = source-rest (contents_of k) lines code c.in_ok-code.ensures c.in_ok-low.ensures forms in
-    let notes : notes_of (contents_of k) ≡ map (λ v. v.items) c.deref-5.result.now =
+    let rest = source-rest (contents_of k) beside code c.in_ok-code.ensures c.in_ok-low.ensures forms in
+    let notes : notes_of (contents_of k) ++ notes_beside k.code.now beside ≡ map (λ v. v.items) c.deref-5.result.now =
     sym (ap (map (λ v. v.items)) c.deref-5.ensures.value ∙ c.in_ok-notes.ensures) in
     let text = rest
-    ∙ ap (λ r. r >>= λ invs. if_whole (code_text (extras_of (contents_of k) lines) code invs)) found
-    ∙ (λ i. if_whole (code_text (extras_with k.code.now lines (notes i))
+    ∙ ap (λ r. r >>= λ invs. if_whole (code_text (extras_of (contents_of k) beside) code invs)) found
+    ∙ (λ i. if_whole (code_text (extras_with k.code.now beside.lines (notes i))
     (sym c.insns.ensures.value i) (invs_view (sym c.deref-4.ensures.value i)))) in
     subst (λ (r : Result (List ℕ) NoSource). Finds (λ v. v.items) r c.printed.result) (sym text)
     c.printed.ensures

@@ -1,6 +1,6 @@
 use Rattle.std.proofs.Common.{[], ◌∷◌, subst}
-use Rattle.view_goal_text.specs.Lines.{plain_line}
-use Rattle.view_goal_text.specs.Inside.Shown.{AreAdded}
+use Rattle.view_lines.specs.Lines.{plain_line}
+use Rattle.view_lines.specs.Shown.{AreAdded}
 use Rattle.view_goal_text.proofs.hints.push_bounds.Goals as goal
 
 pub returns-clause-exact : goal.returns-clause-exact

@@ -1,57 +1,45 @@
-use Rattle.std.proofs.Common.{ℕ, ◌<◌, ◌≤◌, [], ◌∷◌, List, length, map, take, rules, sym, subst, take_all}
+use Rattle.std.proofs.Common.{◌≡◌, [], ◌∷◌, is_some, ◌∙◌, ap, subst}
 use Rattle.std.specs.Prelude.{codes}
-use Rattle.term_table.specs.Table.{IsKnown, tree_at}
-use Rattle.proof_container.proofs.Ordering.{known-get}
-use Rattle.view_goal_text.specs.Lines.{before}
-use Rattle.view_goal_text.specs.Inside.Shown.{AreAdded}
-use Rattle.view_goal_text.proofs.Growing.{grown-twice}
-use Rattle.view_goal_text.proofs.Adding.{grown-not, added-none, added-more}
-use Rattle.view_goal_text.proofs.HintLines.{all-known, like-more}
+use Rattle.term_table.specs.Table.{tree_at}
+use Rattle.lf_terms.specs.Encoding.{form_encoding}
+use Rattle.prover_goals.proofs.Kept.{search-more}
+use Rattle.view_lines.specs.Lines.{before}
+use Rattle.view_lines.specs.Shown.{AreAdded}
+use Rattle.view_lines.proofs.Adding.{lines-known, added-more, added-later}
+use Rattle.view_marks.specs.Halves.{half_of}
+use Rattle.view_goal_text.specs.Hints.{half_lines}
 use Rattle.view_goal_text.proofs.hints.push_like.Goals as goal
 
-pub loop-index-init : goal.loop-index-init
-loop-index-init c =
-    let t = c.args.table.now in record {
-      extends = grown-not t;
-      ids = c.requires.ids;
-      known = c.requires.lines;
-      exact = added-none c.args.bound t t (grown-not t) c.args.lines.now.items c.requires.lines;
-    }
-
-pub loop-index-preserved : goal.loop-index-preserved
-loop-index-preserved c =
-    let t = c.args.table.now in
-    let u = c.loop-index.table in
-    let v = c.push_formula.new.table in
-    let bound = c.args.bound in
-    let word = codes "  like it: " in
-    let ids = c.args.ids.now in
-    let i = c.loop-index.index in
-    let id = c.id_at-id.result in
-    let lt : i < length ids = search rules in
-    let inv = c.loop-index.invariant in
-    let grown = c.in_ok-push_formula.ensures.extends in
-    let here : IsKnown t id = subst (IsKnown t) (sym c.id_at-id.ensures.at) (known-get t ids i id c.requires.ids lt) in
-    let mid = c.loop-index.lines.items in
-    let new = c.push_formula.new.lines.items in
-    let line : AreAdded bound u v mid (before word (tree_at t id) ∷ []) new =
-    subst (λ s. AreAdded bound u v mid (before word s ∷ []) new) (inv.extends.same id here)
-    (subst (λ l. AreAdded bound u v mid (before l (tree_at u id) ∷ []) new) c.in_ok-label.ensures
-    c.in_ok-push_formula.ensures.exact) in record {
-      extends = grown-twice t u v inv.extends grown;
-      ids = all-known u v grown ids inv.ids;
-      known = c.in_ok-push_formula.ensures.known;
-      exact = subst (λ ls. AreAdded bound t v c.args.lines.now.items ls new)
-          (sym (like-more word t ids i id lt c.id_at-id.ensures.at))
-          (added-more bound t u v c.args.lines.now.items (map (before word) (map (tree_at t) (take i ids))) mid
-          (before word (tree_at t id) ∷ []) new inv.exact line);
-    }
+pub push_formula-requires-clause-lines : goal.push_formula-requires-clause-lines
+push_formula-requires-clause-lines c =
+    lines-known c.args.table.now c.half_of.new.table c.in_ok-half.ensures.extends
+    c.args.lines.now.items c.requires.lines
 
 pub returns-clause-exact : goal.returns-clause-exact
-returns-clause-exact c =
+returns-clause-exact c = λ M F qm qf.
     let t = c.args.table.now in
-    let ids = c.args.ids.now in
-    let past : length ids ≤ c.loop-index.index = search rules in
-    subst (λ (l : List ℕ). AreAdded c.args.bound t c.loop-index.table c.args.lines.now.items
-    (map (before (codes "  like it: ")) (map (tree_at t) l)) c.loop-index.lines.items)
-    (take_all c.loop-index.index ids past) c.loop-index.invariant.exact
+    let u = c.half_of.new.table in
+    let v = c.push_formula.new.table in
+    let bound = c.args.missing.now.bound in
+    let id = c.args.id in
+    let word = codes "  like it: " in
+    let old = c.args.lines.now.items in
+    let mid = c.push_formula.new.lines.items in
+    let new = c.push_half.new.lines.items in
+    let grown = c.in_ok-half.ensures.extends in
+    let half = c.in_ok-half.ensures.exact M F qm qf ∙ ap (λ b. half_of b M F) c.is_some.ensures in
+    let there : tree_at u id ≡ form_encoding F = grown.same id c.requires.id ∙ qf in
+    let line = before word (form_encoding F) in
+    let first : AreAdded bound t v old (line ∷ []) mid =
+    added-later bound t u v grown old c.requires.lines (line ∷ []) mid
+    (subst (λ s. AreAdded bound u v old (before word s ∷ []) mid) there
+    (subst (λ l. AreAdded bound u v old (before l (tree_at u id) ∷ []) mid) c.in_ok-label.ensures
+    c.in_ok-push_formula.ensures.exact)) in
+    let second : AreAdded bound v v mid (half_lines (half_of (is_some bound) M F)) new =
+    subst (λ h. AreAdded bound v v mid (half_lines h) new) half (c.in_ok-push_half.ensures.exact bound) in
+    added-more bound t v v old (line ∷ []) mid (half_lines (half_of (is_some bound) M F)) new first second
+
+pub returns-clause-search : goal.returns-clause-search
+returns-clause-search c =
+    search-more c.half_of.new.search c.half_of.new.table c.push_formula.new.table
+    c.in_ok-half.ensures.search c.in_ok-push_formula.ensures.extends

@@ -1,12 +1,13 @@
 use Rattle.std.proofs.Common.{◌≡◌, ◌++◌, map, is_some, sym, ◌∙◌, ap, subst}
 use Rattle.view_goals.specs.Rows.{PartRowsView}
 use Rattle.view_marks.specs.Marks.{part_marks, all_true}
+use Rattle.view_goal_text.specs.Styles.{style_view}
 use Rattle.view_goal_text.specs.Listing.{view_lines}
 use Rattle.view_goal_text.specs.Inside.FormTerms.{IsFormTerm, AreFormRows}
-use Rattle.view_goal_text.specs.Inside.Shown.{shown_line}
+use Rattle.view_lines.specs.Shown.{shown_line}
 use Rattle.view_goal_text.proofs.Growing.{part-more, part-known}
 use Rattle.view_goal_text.proofs.FormTerms.{form-known, form-rows}
-use Rattle.view_goal_text.proofs.Adding.{lines-more, lines-known}
+use Rattle.view_lines.proofs.Adding.{lines-more, lines-known}
 use Rattle.view_goal_text.proofs.parts.push_part.Goals as goal
 
 pub push_view-requires-clause-lines : goal.push_view-requires-clause-lines
@@ -21,7 +22,8 @@ push_view-requires-clause-part c =
 pub returns-clause-exact : goal.returns-clause-exact
 returns-clause-exact c p e =
     let t = c.args.table.now in
-    let bound = c.args.bound in
+    let s = style_view c.args.manner.now.style.now in
+    let bound = c.args.manner.now.bound in
     let u = c.marks_of.new.table in
     let lines = lines-more t u c.in_ok-marks.ensures.extends c.args.lines.now.items c.requires.lines in
     let same = part-more t u c.in_ok-marks.ensures.extends c.args.part.now c.requires.part ∙ e in
@@ -31,6 +33,6 @@ returns-clause-exact c p e =
       c.in_ok-push_view.ensures.exact
           (subst (λ (q : PartRowsView). IsFormTerm q.known) (sym same) (form-known bound p))
           (subst (λ (q : PartRowsView). AreFormRows q.rows) (sym same) (form-rows bound p))
-          ∙ (λ k. lines k ++ map (shown_line bound) (view_lines (is_some bound) c.args.number (same k) (marks k))),
+          ∙ (λ k. lines k ++ map (shown_line bound) (view_lines s bound c.args.number (same k) (marks k))),
       c.all_true.ensures ∙ ap all_true (c.as_slice-2.ensures.value ∙ marked),
     )

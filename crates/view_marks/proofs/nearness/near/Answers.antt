@@ -19,8 +19,6 @@ loop-i-init c =
     record {
       extends = itself t;
       search = c.in_ok-spend_steps.ensures.search t c.requires.search;
-      limited = c.in_ok-spend_steps.ensures.counts.0;
-      left = omega (arith, c.in_ok-spend_steps.ensures.counts.1);
       kept = c.new-kept.ensures [] t;
       found_known = subst (AllKnown t) none tt;
       exact = λ Γ a g q. subst (λ (l : List _). AreFound t l k a Γ 0) none refl;
@@ -53,8 +51,6 @@ loop-i-preserved c =
     record {
       extends = twice before.extends done.extends;
       search = done.search;
-      limited = done.spends.0 ∙ before.limited;
-      left = omega (arith, done.spends.1, before.left);
       kept = done.kept;
       found_known = elim c.if-branch.branch [
         | then-branch+in_ok-push w ↦ known_push u old more.items x.form (all_known-more t u old before.found_known done.extends) later

@@ -1,6 +1,5 @@
-use Rattle.std.proofs.Common.{◌≡◌, ◌≤◌}
+use Rattle.std.proofs.Common.{◌≡◌}
 use Rattle.term_table.specs.Table.{AllKnown, tree_at, Extends}
-use Rattle.hereditary_subst.specs.Limits.{is_limited, left_of}
 use Rattle.formula_tree.specs.Formulas.{Exp}
 use Rattle.lf_terms.specs.Encoding.{exp_encoding}
 use Rattle.prover_ids.specs.Hypotheses.{AreHyps}
@@ -14,8 +13,6 @@ abbrev pub invariant-loop-i : goal.invariant-loop-i
 invariant-loop-i l = record {
   extends : Extends l.fn.table l.table;
   search : IsSearch l.table l.search;
-  limited : is_limited l.search.memo ≡ is_limited l.fn.search.memo;
-  left : left_of l.search.memo ≤ left_of l.fn.search.memo;
   kept : AreReached l.table l.kept;
   found_known : AllKnown l.table l.found.items;
   exact : (Γ : Hyps) (a : Exp) → AreHyps l.fn.table l.hyps Γ

@@ -7,6 +7,14 @@ use Rattle.view_cli.specs.Reports.{exit_of_report}
 use Rattle.view_cli.proofs.CommandStages.{same_stage}
 use Rattle.view_cli.proofs.commands.list.listed_in.Goals as goal
 
+pub listed_beside-requires-clause-version : goal.listed_beside-requires-clause-version
+listed_beside-requires-clause-version g c =
+    let found = rw c.in-Ok-Container.field-0-is at c.in-Ok-Container.ensures in found.4
+
+pub listed_beside-requires-clause-bound : goal.listed_beside-requires-clause-bound
+listed_beside-requires-clause-bound g c =
+    let found = rw c.in-Ok-Container.field-0-is at c.in-Ok-Container.ensures in found.5
+
 pub returns-in-Ok-Container : goal.returns-in-Ok-Container
 returns-in-Ok-Container g c =
     let source = option_map (λ n. n.now) c.args.source in

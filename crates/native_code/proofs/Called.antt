@@ -1,0 +1,313 @@
+-- A call comes to the first block, in agreement.
+use Rattle.std.proofs.Common.{◌≡◌, ◌≢◌, ◌⊎◌, ℕ, zero, suc, ◌+◌, ◌^◌, ◌<◌, ◌≤◌, Bool, true, false, cond, List, [], ◌∷◌, ◌++◌, length, slice_get, slice_index}
+use Rattle.std.proofs.Common.{Some, All, refl, sym, ap, ◌∙◌, subst, arith, inl, inr}
+use Rattle.std.proofs.lemmas.Bool.{cases_eq, ne_eqb}
+use Rattle.std.proofs.lemmas.List.{append_assoc, append-nil}
+use Rattle.word_ops.specs.Memory.{read}
+use Rattle.alpha_words.specs.declared.insn.Insn.{Insn}
+use Rattle.alpha_cfg.specs.Machine.{State, IsState}
+use Rattle.x86_words.specs.declared.insn.X86Insn.{X86Insn}
+use Rattle.x86_words.specs.declared.insn.X86Insn.TheVariants.{Mov, MovZero, Store}
+use Rattle.x86_machine.specs.declared.outcome.X86Step.TheVariants as steps
+use Rattle.x86_machine.specs.declared.outcome.X86Outcome.TheVariants as outcomes
+use Rattle.x86_machine.specs.Machine.{X86, IsX86, x86_run}
+use Rattle.native_steps.specs.declared.places.Place.{Place}
+use Rattle.native_steps.specs.declared.places.Place.TheVariants.{Register, Slot, Nowhere}
+use Rattle.native_steps.specs.Places.{Places, ArePlaces, place_at, slot, is_free, is_callee_saved, RAX, RCX, FUEL, AREA}
+use Rattle.native_steps.specs.Sequences.{keep_place}
+use Rattle.native_steps.specs.Straight.{IsStraight}
+use Rattle.native_steps.specs.Agreement.{Call, IsLent, Agrees}
+use Rattle.native_steps.proofs.Straights.{Runs, none-run, then-run, both-run}
+use Rattle.native_steps.proofs.Frames.{wrote, wrote-is, wrote-reads, wrote-other, free-below, isnt}
+use Rattle.native_steps.proofs.Encodable.{Straight, no-insn, one-straight, then-straight, both-straight, straight, slot-fits, keep_place-straight}
+use Rattle.native_code.specs.Blocks.{save_place, enter, clear, entry_code, for_registers, is_argument, RDX, RSI, RDI}
+use Rattle.native_code.specs.declared.insn.NativeInsn.{NativeInsn}
+use Rattle.native_code.specs.Blocks.{plain, block_at, front_code}
+use Rattle.native_code.specs.Layout.{offset_of, native_text}
+use Rattle.native_code.specs.Calls.{IsCall, Called}
+use Rattle.native_code.proofs.Texts.{plain-length, Lies, entry-lies}
+use Rattle.native_code.proofs.Reaching.{Reaches, reach-straight, reached}
+use Rattle.native_code.proofs.Entering.{Partly, partly-as, partly-all, With, Enters, entered}
+
+-- a register with an argument
+argument-cases : (r : ℕ) → is_argument r ≡ true → (r ≡ 18) ⊎ ((r ≡ 16) ⊎ (r ≡ 17))
+argument-cases r e = elim (cases_eq r 18) [
+  | inl a ↦ inl a
+  | inr n ↦ elim (cases_eq r 16) [
+    | inl b ↦ inr (inl b)
+    | inr m ↦ elim (cases_eq r 17) [
+      | inl c ↦ inr (inr c)
+      | inr k ↦ let wrong : is_argument r ≡ false = rw (ne_eqb r 16 m, ne_eqb r 17 k, ne_eqb r 18 n) refl in absurd cc
+    ]
+  ]
+]
+
+module _ (p : Places) (call : Call) (s : State) (places : ArePlaces p) (lent : IsLent call s.rights) where
+  -- ---- bytes
+
+  save-straight : (o : Place) (r : ℕ) → r < 31 → place_at p r ≡ o → Straight (save_place o r)
+  save-straight (Register q) r low e =
+      let store : IsStraight (Store AREA (slot r) q) =
+      straight (Store AREA (slot r) q) (omega arith, slot-fits r low, free-below q (places.free r q e)) refl refl in
+      elim (is_callee_saved q) as (λ b. Straight (cond b (Store AREA (slot r) q ∷ []) [])) [ true ↦ one-straight _ store | false ↦ no-insn ]
+  save-straight Slot r low e = no-insn
+  save-straight Nowhere r low e = no-insn
+
+  enter-straight : (r from : ℕ) → r < 31 → from < 16 → Straight (enter p r from)
+  enter-straight r from low h =
+      both-straight (save_place (place_at p r) r) (keep_place (place_at p r) r from) (save-straight (place_at p r) r low refl)
+      (keep_place-straight p places (place_at p r) r from low h refl)
+
+  clear-straight : (n : ℕ) → n < 31 → Straight (clear p n)
+  clear-straight n h = elim (is_argument n) as (λ b. Straight (cond b [] (enter p n RAX))) [ true ↦ no-insn | false ↦ enter-straight n RAX h (omega arith) ]
+
+  clears-straight : (n : ℕ) → n ≤ 31 → Straight (for_registers (clear p) n)
+  clears-straight zero h = no-insn
+  clears-straight (suc n) h =
+      both-straight (for_registers (clear p) n) (clear p n) (clears-straight n (omega (arith, h))) (clear-straight n (omega (arith, h)))
+
+  pub entry-straight : Straight (entry_code p)
+  entry-straight =
+      let n : length p ≤ 31 = let c = places.count in omega (arith, c) in
+      let move : (to from : ℕ) → to < 16 → from < 16 → IsStraight (Mov to from) = λ to from a b. straight (Mov to from) (a, b) refl refl in
+      then-straight _ _ (move AREA RCX (omega arith) (omega arith))
+      (then-straight _ _ (move RAX RDI (omega arith) (omega arith))
+      (then-straight _ _ (move RCX RSI (omega arith) (omega arith))
+      (both-straight (enter p 18 RDX) _ (enter-straight 18 RDX (omega arith) (omega arith))
+      (both-straight (enter p 16 RAX) _ (enter-straight 16 RAX (omega arith) (omega arith))
+      (both-straight (enter p 17 RCX) _ (enter-straight 17 RCX (omega arith) (omega arith))
+      (then-straight _ _ (straight (MovZero RAX 0) (omega arith, omega arith) refl refl) (clears-straight (length p) n)))))))
+
+  -- ---- the registers without an argument
+
+  -- those below n, and those with an argument
+  abbrev Cleared : ℕ → ℕ → Type 0
+  Cleared n r = (r < n) ⊎ (is_argument r ≡ true)
+
+  record ClearedBy (n : ℕ) (x : X86) : Type 0 where
+    end : X86
+    runs : Runs (for_registers (clear p) n) x end
+    partly : Partly p call s places lent (Cleared n) end
+    rax : slice_index end.regs RAX ≡ 0
+
+  module _ (others : (r : ℕ) → is_argument r ≡ false → slice_index s.regs r ≡ 0) where
+    one-cleared : (n : ℕ) (b : Bool) (y : X86) → n < 31 → is_argument n ≡ b → Partly p call s places lent (Cleared n) y → slice_index y.regs RAX ≡ 0 →
+        (z : X86) × Runs (cond b [] (enter p n RAX)) y z × Partly p call s places lent (Cleared (suc n)) z × (slice_index z.regs RAX ≡ 0)
+    one-cleared n true y low e h rax = (
+      y,
+      none-run y,
+      partly-as p call s places lent (Cleared n) (Cleared (suc n)) y (λ r d. elim d [ inl a ↦ inl (omega (arith, a)) | inr a ↦ inr a ])
+          (λ r d. elim d [
+            | inl a ↦ elim (cases_eq r n) [ inl same ↦ inr (ap is_argument same ∙ e) | inr apart ↦ inl (omega (arith, a, apart)) ]
+            | inr a ↦ inr a
+          ]) h,
+      rax,
+    )
+    one-cleared n false y low e h rax =
+        let fresh : Cleared n n → ⊥ = λ d. elim d [ inl a ↦ absurd (omega (arith, a)) | inr a ↦ let wrong : true ≡ false = sym a ∙ e in absurd cc ] in
+        let m = entered p call s places lent n RAX (Cleared n) y low fresh (rax ∙ sym (others n e)) h in (
+          m.end,
+          m.runs,
+          partly-as p call s places lent (With n (Cleared n)) (Cleared (suc n)) m.end
+              (λ r d. elim d [ inl a ↦ inl (omega (arith, a)) | inr f ↦ elim f [ inl a ↦ inl (omega (arith, a)) | inr a ↦ inr a ] ])
+              (λ r d. elim d [
+                | inl a ↦ elim (cases_eq r n) [ inl same ↦ inl same | inr apart ↦ inr (inl (omega (arith, a, apart))) ]
+                | inr a ↦ inr (inr a)
+              ]) m.partly,
+          m.same RAX refl ∙ rax,
+        )
+
+    all-cleared : (n : ℕ) (x : X86) → n ≤ 31 → Partly p call s places lent (Cleared 0) x → slice_index x.regs RAX ≡ 0 → ClearedBy n x
+    all-cleared zero x h d rax = record { end = x; runs = none-run x; partly = d; rax = rax }
+    all-cleared (suc n) x h d rax =
+        let a = all-cleared n x (omega (arith, h)) d rax in
+        let b = one-cleared n (is_argument n) a.end (omega (arith, h)) refl a.partly a.rax in
+        record { end = b.0; runs = both-run (for_registers (clear p) n) (clear p n) x a.end b.0 a.runs b.1; partly = b.2; rax = b.3 }
+
+  -- ---- the whole entry
+
+  -- rax got a word
+  with-rax : (D : ℕ → Type 0) (x : X86) (at word : ℕ) → word < 2 ^ 64 → Partly p call s places lent D x →
+      Partly p call s places lent D (wrote x at x.flags RAX word)
+  with-rax D x at word below h =
+      let other : (k : ℕ) → k ≢ RAX → slice_index (wrote x at x.flags RAX word).regs k ≡ slice_index x.regs k =
+      λ k n. wrote-other x at x.flags RAX word k n in
+      record {
+        machine = wrote-is x at x.flags RAX word h.machine below;
+        rights = h.rights;
+        area = other AREA (λ e. omega (arith, e)) ∙ h.area;
+        fuel = other FUEL (λ e. omega (arith, e)) ∙ h.fuel;
+        in_register = λ r q d e. other q (isnt is_free q RAX (places.free r q e) refl) ∙ h.in_register r q d e;
+        in_slot = h.in_slot;
+        saved = h.saved;
+        untouched = λ q c none. other q (isnt is_callee_saved q RAX c refl) ∙ h.untouched q c none;
+        memory = h.memory;
+      }
+
+  -- no register is in its place yet
+  abbrev None-yet : ℕ → Type 0
+  None-yet r = ⊥
+
+  pub record EntersBy (x : X86) : Type 0 where
+    pub end : X86
+    pub runs : Runs (entry_code p) x end
+    pub agrees : Agrees p call s end
+
+  module _ (x : X86) (state : IsState s) (h : IsCall call s x) where
+    abbrev x1 : X86
+    x1 = wrote x (x.at + 3) x.flags AREA (slice_index x.regs RCX)
+
+    abbrev x2 : X86
+    x2 = wrote x1 (x1.at + 3) x1.flags RAX (slice_index x1.regs RDI)
+
+    abbrev x3 : X86
+    x3 = wrote x2 (x2.at + 3) x2.flags RCX (slice_index x2.regs RSI)
+
+    is1 : IsX86 x1
+    is1 = wrote-is x (x.at + 3) x.flags AREA (slice_index x.regs RCX) h.machine (h.machine.words RCX)
+
+    is2 : IsX86 x2
+    is2 = wrote-is x1 (x1.at + 3) x1.flags RAX (slice_index x1.regs RDI) is1 (is1.words RDI)
+
+    is3 : IsX86 x3
+    is3 = wrote-is x2 (x2.at + 3) x2.flags RCX (slice_index x2.regs RSI) is2 (is2.words RSI)
+
+    other1 : (k : ℕ) → k ≢ AREA → slice_index x1.regs k ≡ slice_index x.regs k
+    other1 k n = wrote-other x (x.at + 3) x.flags AREA (slice_index x.regs RCX) k n
+
+    other2 : (k : ℕ) → k ≢ RAX → slice_index x2.regs k ≡ slice_index x1.regs k
+    other2 k n = wrote-other x1 (x1.at + 3) x1.flags RAX (slice_index x1.regs RDI) k n
+
+    other3 : (k : ℕ) → k ≢ RCX → slice_index x3.regs k ≡ slice_index x2.regs k
+    other3 k n = wrote-other x2 (x2.at + 3) x2.flags RCX (slice_index x2.regs RSI) k n
+
+    begun : Partly p call s places lent None-yet x3
+    begun = record {
+      machine = is3;
+      rights = h.rights;
+      area =
+          other3 AREA (λ e. omega (arith, e)) ∙ other2 AREA (λ e. omega (arith, e))
+          ∙ wrote-reads x (x.at + 3) x.flags AREA (slice_index x.regs RCX) h.machine (omega arith) ∙ h.area;
+      fuel =
+          other3 FUEL (λ e. omega (arith, e)) ∙ other2 FUEL (λ e. omega (arith, e)) ∙ other1 FUEL (λ e. omega (arith, e)) ∙ h.fuel;
+      in_register = λ r q d e. absurd d;
+      in_slot = λ r d e. absurd d;
+      saved = λ r q d e c. absurd d;
+      untouched = λ q c none.
+          other3 q (isnt is_callee_saved q RCX c refl) ∙ other2 q (isnt is_callee_saved q RAX c refl) ∙ other1 q (isnt is_callee_saved q AREA c refl)
+          ∙ h.registers q;
+      memory = h.memory;
+    }
+
+    third-waits : slice_index x3.regs RDX ≡ slice_index s.regs 18
+    third-waits =
+        other3 RDX (λ e. omega (arith, e)) ∙ other2 RDX (λ e. omega (arith, e)) ∙ other1 RDX (λ e. omega (arith, e)) ∙ sym h.third
+
+    first-waits : slice_index x3.regs RAX ≡ slice_index s.regs 16
+    first-waits =
+        other3 RAX (λ e. omega (arith, e)) ∙ wrote-reads x1 (x1.at + 3) x1.flags RAX (slice_index x1.regs RDI) is1 (omega arith)
+        ∙ other1 RDI (λ e. omega (arith, e)) ∙ sym h.first
+
+    second-waits : slice_index x3.regs RCX ≡ slice_index s.regs 17
+    second-waits =
+        wrote-reads x2 (x2.at + 3) x2.flags RCX (slice_index x2.regs RSI) is2 (omega arith) ∙ other2 RSI (λ e. omega (arith, e))
+        ∙ other1 RSI (λ e. omega (arith, e)) ∙ sym h.second
+
+    abbrev Third : ℕ → Type 0
+    Third = With 18 None-yet
+
+    abbrev FirstToo : ℕ → Type 0
+    FirstToo = With 16 Third
+
+    abbrev AllThree : ℕ → Type 0
+    AllThree = With 17 FirstToo
+
+    third-in : Enters p call s places lent (enter p 18 RDX) 18 None-yet x3
+    third-in = entered p call s places lent 18 RDX None-yet x3 (omega arith) (λ d. d) third-waits begun
+
+    first-in : Enters p call s places lent (enter p 16 RAX) 16 Third third-in.end
+    first-in =
+        entered p call s places lent 16 RAX Third third-in.end (omega arith) (λ d. elim d [ inl e ↦ omega (arith, e) | inr none ↦ none ])
+        (third-in.same RAX refl ∙ first-waits) third-in.partly
+
+    second-in : Enters p call s places lent (enter p 17 RCX) 17 FirstToo first-in.end
+    second-in =
+        entered p call s places lent 17 RCX FirstToo first-in.end (omega arith)
+        (λ d. elim d [ inl e ↦ omega (arith, e) | inr more ↦ elim more [ inl e ↦ omega (arith, e) | inr none ↦ none ] ])
+        (first-in.same RCX refl ∙ third-in.same RCX refl ∙ second-waits) first-in.partly
+
+    -- 0 in rax
+    abbrev zeroed : X86
+    zeroed = wrote second-in.end (second-in.end.at + 6) second-in.end.flags RAX 0
+
+    three-cleared : Partly p call s places lent (Cleared 0) zeroed
+    three-cleared =
+        with-rax (Cleared 0) second-in.end (second-in.end.at + 6) 0 (omega arith)
+        (partly-as p call s places lent AllThree (Cleared 0) second-in.end
+        (λ r d. elim d [
+          | inl e ↦ inr (ap is_argument e)
+          | inr more ↦ elim more [ inl e ↦ inr (ap is_argument e) | inr last ↦ elim last [ inl e ↦ inr (ap is_argument e) | inr none ↦ absurd none ] ]
+        ])
+        (λ r d. elim d [
+          | inl low ↦ absurd (omega (arith, low))
+          | inr e ↦ elim (argument-cases r e) [
+            | inl a ↦ inr (inr (inl a))
+            | inr more ↦ elim more [ inl b ↦ inr (inl b) | inr c ↦ inl c ]
+          ]
+        ]) second-in.partly)
+
+    pub entry-runs : EntersBy x
+    entry-runs =
+        let n-is : length p ≡ 31 = places.count in
+        let zero-rax : slice_index zeroed.regs RAX ≡ 0 =
+        wrote-reads second-in.end (second-in.end.at + 6) second-in.end.flags RAX 0 second-in.partly.machine (omega arith) in
+        let c = all-cleared (λ r e. h.others r e) (length p) zeroed (omega (arith, n-is)) three-cleared zero-rax in
+        let clears : List X86Insn = for_registers (clear p) (length p) in
+        let rest : Runs (MovZero RAX 0 ∷ clears) second-in.end c.end = then-run (MovZero RAX 0) clears second-in.end zeroed c.end refl refl c.runs in
+        let second : Runs (enter p 17 RCX ++ (MovZero RAX 0 ∷ clears)) first-in.end c.end =
+        both-run (enter p 17 RCX) (MovZero RAX 0 ∷ clears) first-in.end second-in.end c.end second-in.runs rest in
+        let first : Runs (enter p 16 RAX ++ (enter p 17 RCX ++ (MovZero RAX 0 ∷ clears))) third-in.end c.end =
+        both-run (enter p 16 RAX) (enter p 17 RCX ++ (MovZero RAX 0 ∷ clears)) third-in.end first-in.end c.end first-in.runs second in
+        let all : Runs (enter p 18 RDX ++ (enter p 16 RAX ++ (enter p 17 RCX ++ (MovZero RAX 0 ∷ clears)))) x3 c.end =
+        both-run (enter p 18 RDX) (enter p 16 RAX ++ (enter p 17 RCX ++ (MovZero RAX 0 ∷ clears))) x3 third-in.end c.end third-in.runs first in
+        record {
+          end = c.end;
+          runs =
+              then-run (Mov AREA RCX) _ x x1 c.end refl refl
+              (then-run (Mov RAX RDI) _ x1 x2 c.end refl refl (then-run (Mov RCX RSI) _ x2 x3 c.end refl refl all));
+          agrees = partly-all p call s places lent (Cleared (length p)) c.end (λ r low. inl (omega (arith, low, n-is))) c.partly;
+        }
+
+-- ---- in the text
+
+-- what stands in front begins with the entry
+record BeginsWithEntry (p : Places) (metered : Bool) (code : List Insn) (n : ℕ) : Type 0 where
+  rest : List NativeInsn
+  whole : front_code p metered code n ≡ plain (entry_code p) ++ rest
+
+front-begins : (p : Places) (metered : Bool) (code : List Insn) (n : ℕ) → BeginsWithEntry p metered code n
+front-begins p metered code zero = record { rest = []; whole = sym (append-nil (plain (entry_code p))) }
+front-begins p metered code (suc n) =
+    let b = front-begins p metered code n in
+    let next : List NativeInsn = block_at p metered code n (slice_get code n) in
+    record { rest = b.rest ++ next; whole = ap (λ l. l ++ next) b.whole ∙ append_assoc (plain (entry_code p)) b.rest next }
+
+pub called : Called
+called = λ p metered code call s x is of state lent h.
+    let b = front-begins p metered code (suc (length code)) in
+    let text : List ℕ = native_text p metered code in
+    let e = entry-runs p call s of.places lent x state h in
+    let lies : Lies text x.at (entry_code p) =
+    subst (λ n. Lies text n (entry_code p)) (sym h.at) (entry-lies p metered code b.rest (entry_code p) b.whole) in
+    let r : Reaches text x e.end = reach-straight text (entry_code p) x e.end lies (entry-straight p call s of.places lent) e.runs.runs in
+    let first : e.end.at ≡ offset_of p metered code 0 =
+    let a = e.runs.at in
+    let z = h.at in
+    let n = plain-length (entry_code p) in
+    omega (arith, a, z, n) in
+    record {
+      count = r.count;
+      end = e.end;
+      runs = reached text x e.end r;
+      agrees = record { at = first ∙ ap (offset_of p metered code) (sym h.start); agrees = e.agrees };
+    }

@@ -1,0 +1,353 @@
+-- Native code follows every Alpha run for which the fuel is enough, and ends where it isn't.
+use Rattle.std.proofs.Common.{◌≡◌, ◌≢◌, ℕ, zero, suc, ◌+◌, ◌-◌, ◌^◌, ◌<◌, ◌≤◌, Bool, true, false, cond, ◌&&◌, List, [], ◌∷◌, length, slice_get, slice_index}
+use Rattle.std.proofs.Common.{Option, Some, None, refl, sym, ap, ◌∙◌, subst, arith, inl, inr}
+use Rattle.std.proofs.lemmas.Bool.{cases_eq, cases_Bool}
+use Rattle.std.proofs.lemmas.Option.{slice_get_within, slice_get_past}
+use Rattle.word_ops.specs.Rights.{Rights}
+use Rattle.alpha_words.specs.declared.insn.Insn.{Insn}
+use Rattle.alpha_cfg.specs.declared.outcome.Step.{Step}
+use Rattle.alpha_cfg.specs.declared.outcome.Step.TheVariants as moves
+use Rattle.alpha_cfg.specs.declared.outcome.Outcome.{Outcome}
+use Rattle.alpha_cfg.specs.declared.outcome.Outcome.TheVariants as ends
+use Rattle.alpha_cfg.specs.Flow.{IsCode}
+use Rattle.alpha_cfg.specs.Machine.{State, IsState, insn_outcome, step_at, ends_with, run_of}
+use Rattle.alpha_cfg.proofs.States.{IsAt, insn_outcome-keeps, insn_outcome-rights}
+use Rattle.x86_words.specs.declared.insn.X86Insn.{X86Insn}
+use Rattle.x86_words.specs.declared.insn.X86Insn.TheVariants.{MovZero}
+use Rattle.x86_machine.specs.declared.outcome.X86Outcome.TheVariants as outcomes
+use Rattle.x86_machine.specs.Machine.{X86, x86_run}
+use Rattle.native_steps.specs.Places.{Places, ArePlaces, FUEL, RAX}
+use Rattle.native_steps.specs.Straight.{total_length}
+use Rattle.native_steps.specs.Agreement.{Call, IsLent, Agrees}
+use Rattle.native_steps.proofs.Frames.{wrote, wrote-same, wrote-reads, agrees-same}
+use Rattle.native_steps.proofs.Encodable.{straight}
+use Rattle.native_code.specs.Heads.{IsLoopHead, is_loop_head, if_moved, arrivals}
+use Rattle.native_code.specs.declared.insn.NativeInsn.{NativeInsn}
+use Rattle.native_code.specs.Blocks.{fuel_code, block_at, exit_code, spent_code}
+use Rattle.native_code.specs.Layout.{code_length, placed_from, offset_of, native_text}
+use Rattle.native_code.specs.Calls.{ArePlacesOf, spend, IsCallEnd, AgreesAt, fuel_of, Comes, Leaves, Follows, SimulatesRuns, Spends}
+use Rattle.native_code.proofs.Texts.{Lies, lies-as, lies-back, placed-plain, block-lies, block}
+use Rattle.native_code.proofs.Reaching.{Reaches, reach-none, reach-both, reach-one, reached}
+use Rattle.native_code.proofs.Leaving.{leaves}
+use Rattle.native_code.proofs.Heading.{heads}
+use Rattle.native_code.proofs.Stepping.{agrees-fuel, Charged, charged, Spent, spent, Moves, moves-on}
+use Rattle.native_code.proofs.Stepping.{returns-so, middle, taking, charging-lies, near}
+
+-- ---- units
+
+-- what a step takes and what the rest takes
+sum-is : (m h : Bool) (a : ℕ) → cond m (cond h 1 0 + a) 0 ≡ cond (m && h) 1 0 + cond m a 0
+sum-is true h a = refl
+sum-is false h a = omega arith
+
+nothing : (m : Bool) → ◌≡◌ {A = ℕ} (cond m 0 0) 0
+nothing true = refl
+nothing false = refl
+
+no-unit : (b : Bool) → b ≡ false → ◌≡◌ {A = ℕ} (cond b 1 0) 0
+no-unit b e = ap (λ c. cond c 1 0) e
+
+unit-most : (b : Bool) → cond b 1 0 ≤ 1
+unit-most true = omega arith
+unit-most false = omega arith
+
+-- an index of the code has an instruction
+missing-insn : (code : List Insn) (i : ℕ) → i < length code → slice_get code i ≡ None → ⊥
+missing-insn [] i low e = omega (arith, low)
+missing-insn (x ∷ rest) zero low e = absurd cc
+missing-insn (x ∷ rest) (suc i) low e = missing-insn rest i (omega (arith, low)) e
+
+-- a loop head is an index of the code
+head-inside : (code : List Insn) (i : ℕ) → is_loop_head code i ≡ true → i < length code
+head-inside code i e =
+    let h : IsLoopHead code i = (heads code i).0 e in
+    let low = slice_get_within code h.from h.insn h.here in
+    let b = h.back in
+    omega (arith, low, b)
+
+-- ---- the caller's side
+
+lent-spent : (call : Call) (f : ℕ) (rights : Rights) → IsLent call rights → IsLent (record call { fuel = f }) rights
+lent-spent call f rights h = record { span = h.span; unread = h.unread; unwritten = h.unwritten }
+
+return-spent : (call : Call) (f word why : ℕ) (s : State) (y : X86) → IsCallEnd (record call { fuel = f }) word why s y → IsCallEnd call word why s y
+return-spent call f word why s y h = record { word_is = h.word_is; why_is = h.why_is; kept = h.kept; memory = h.memory }
+
+module _ (p : Places) (metered : Bool) (code : List Insn) (ok : IsCode code) (of : ArePlacesOf p code) where
+  abbrev text : List ℕ
+  text = native_text p metered code
+
+  abbrev offset : ℕ → ℕ
+  offset = offset_of p metered code
+
+  -- ---- steps before
+
+  come-by : (call : Call) (t : State) (x y : X86) → Reaches text x y → AgreesAt p metered code call t y → Comes p metered code call t x
+  come-by call t x y r a = record { count = r.count; end = y; runs = reached text x y r; agrees = a }
+
+  leave-by : (call : Call) (f word why : ℕ) (t : State) (x y : X86) → Reaches text x y → Leaves p metered code (record call { fuel = f }) word why t y →
+      Leaves p metered code call word why t x
+  leave-by call f word why t x y r l = record {
+    count = r.count + l.count;
+    end = l.end;
+    left = r.runs l.count ∙ l.left;
+    returns = return-spent call f word why t l.end l.returns;
+  }
+
+  come-on : (call : Call) (k f total : ℕ) (t : State) (x y : X86) → total ≡ k + f → Reaches text x y → Comes p metered code (spend (spend call k) f) t y →
+      Comes p metered code (spend call total) t x
+  come-on call k f total t x y sum r c =
+      let less : call.fuel - k - f ≡ call.fuel - total = omega (arith, sum) in
+      record {
+        count = r.count + c.count;
+        end = c.end;
+        runs = r.runs c.count ∙ c.runs;
+        agrees = subst (λ n. AgreesAt p metered code (record call { fuel = n }) t c.end) less c.agrees;
+      }
+
+  onward : (call : Call) (k f total : ℕ) (r : Outcome × State) (x y : X86) → total ≡ k + f → Reaches text x y →
+      Follows p metered code (spend call k) f r y →
+      Follows p metered code call total r x
+  onward call k f total (ends.OutOfSteps, t) x y sum r h = come-on call k f total t x y sum r h
+  onward call k f total (ends.Returned word, t) x y sum r h = leave-by call (call.fuel - k) word 0 t x y r h
+  onward call k f total (ends.Blocked index kind addr, t) x y sum r h = tt
+
+  -- ---- one step
+
+  module _ (call : Call) (s : State) (x : X86) (state : IsState s) (lent : IsLent call s.rights) (agrees : AgreesAt p metered code call s x) where
+    abbrev head : Bool
+    head = is_loop_head code s.index
+
+    abbrev takes : Bool
+    takes = metered && head
+
+    -- the block's first part is done
+    module _ (insn : Insn) (here : slice_get code s.index ≡ Some insn) where
+      charged-here : cond takes 1 0 ≤ call.fuel → Charged p metered code ok of call s x takes
+      charged-here enough =
+          let first : List NativeInsn = fuel_code p metered code s.index in
+          let lies : Lies text x.at (placed_from offset x.at first) =
+          subst (λ n. Lies text n (placed_from offset n first)) (sym agrees.at) (charging-lies p metered code ok of s.index insn here) in
+          let n = near p metered code ok of s.index insn here in
+          let a = agrees.at in
+          charged p metered code ok of takes call s x agrees.agrees (omega (arith, n, a)) lies enough
+
+      at-middle : (c : Charged p metered code ok of call s x takes) → c.end.at ≡ middle p metered code ok of s.index insn here
+      at-middle c = c.at ∙ ap (λ n. n + code_length (fuel_code p metered code s.index)) agrees.at
+
+      state-after : (u : State) → insn_outcome insn s ≡ (moves.Moved, u) → IsState u
+      state-after u e =
+          let is : IsAt (length code) s = record { index = slice_get_within code s.index insn here; state = state } in
+          let k : IsAt (length code) (insn_outcome insn s).1 = insn_outcome-keeps code insn s ok here (ok.encoded s.index insn here) is in
+          subst (λ (q : Step × State). IsState q.1) e k.state
+
+      lent-after : (f : ℕ) (u : State) → insn_outcome insn s ≡ (moves.Moved, u) → IsLent (record call { fuel = f }) u.rights
+      lent-after f u e =
+          let same : s.rights ≡ u.rights = sym (insn_outcome-rights insn s) ∙ ap (λ (q : Step × State). q.1.rights) e in
+          lent-spent call f u.rights (subst (IsLent call) same lent)
+
+      -- to the next block
+      record StepsOn (u : State) : Type 0 where
+        end : X86
+        reaches : Reaches text x end
+        agrees_then : AgreesAt p metered code (spend call (cond takes 1 0)) u end
+
+      steps-on : (u : State) → cond takes 1 0 ≤ call.fuel → insn_outcome insn s ≡ (moves.Moved, u) → StepsOn u
+      steps-on u enough e =
+          let c = charged-here enough in
+          let spent_call : Call = spend call (cond takes 1 0) in
+          let m : Moves p metered code ok of s.index insn here spent_call u c.end =
+          moves-on p metered code ok of s.index insn here spent_call s u c.end state (lent-spent call (call.fuel - cond takes 1 0) s.rights lent) refl
+          (at-middle c) c.agrees e in
+          record { end = m.end; reaches = reach-both text x c.end m.end c.reaches m.reaches; agrees_then = m.agrees }
+
+      -- a return ends the call
+      ends-so : (u : State) → cond takes 1 0 ≤ call.fuel → insn_outcome insn s ≡ (moves.Returned, u) →
+          Leaves p metered code call (slice_index u.regs 0) 0 u x
+      ends-so u enough e =
+          let c = charged-here enough in
+          let spent_call : Call = spend call (cond takes 1 0) in
+          let r =
+          returns-so p metered code ok of s.index insn here spent_call s u c.end state (lent-spent call (call.fuel - cond takes 1 0) s.rights lent) refl
+          (at-middle c) c.agrees u e in
+          let l : Leaves p metered code spent_call (slice_index s.regs 0) 0 s c.end =
+          record { count = r.0.count; end = r.0.end; left = r.0.left; returns = r.0.returns } in
+          subst (λ (v : State). Leaves p metered code call (slice_index v.regs 0) 0 v x) (sym r.1)
+          (leave-by call (call.fuel - cond takes 1 0) (slice_index s.regs 0) 0 s x c.end c.reaches l)
+
+  -- ---- runs
+
+  -- the units of a run that begins with a step
+  abbrev total : ℕ → State → Step × State → ℕ
+  total n s q = cond metered (cond (is_loop_head code s.index) 1 0 + if_moved q.0 (arrivals code n q.1)) 0
+
+  -- every run of at most n steps is followed
+  abbrev FollowsAll : ℕ → Type 0
+  FollowsAll n =
+      (call : Call) (s : State) (x : X86) → IsState s → IsLent call s.rights → AgreesAt p metered code call s x → fuel_of p metered code n s ≤ call.fuel →
+      Follows p metered code call (fuel_of p metered code n s) (run_of code n s) x
+
+  follow-none : FollowsAll zero
+  follow-none = λ call s x state lent a enough.
+      let none = nothing metered in
+      let same : call.fuel ≡ call.fuel - cond metered 0 0 = omega (arith, none) in
+      come-by (spend call (cond metered 0 0)) s x x (reach-none text x)
+      (record { at = a.at; agrees = agrees-fuel p call (call.fuel - cond metered 0 0) s x a.agrees (a.agrees.fuel ∙ same) })
+
+  module _ (n : ℕ) (rest : FollowsAll n) (call : Call) (s : State) (x : X86) (state : IsState s) (lent : IsLent call s.rights)
+      (a : AgreesAt p metered code call s x)
+    where
+      by-step : (insn : Insn) → slice_get code s.index ≡ Some insn → (q : Step × State) → insn_outcome insn s ≡ q → total n s q ≤ call.fuel →
+          Follows p metered code call (total n s q) (ends_with q.0 q.1 (run_of code n q.1)) x
+      by-step insn here (moves.Moved, u) e most =
+          let sum = sum-is metered (is_loop_head code s.index) (arrivals code n u) in
+          let units : ℕ = cond (metered && is_loop_head code s.index) 1 0 in
+          let most-is : cond metered (cond (is_loop_head code s.index) 1 0 + arrivals code n u) 0 ≤ call.fuel = most in
+          let left : cond metered (arrivals code n u) 0 ≤ call.fuel - units = omega (arith, sum, most-is) in
+          let m = steps-on call s x state lent a insn here u (omega (arith, sum, most-is)) e in
+          onward call units (fuel_of p metered code n u) (total n s (moves.Moved, u)) (run_of code n u) x m.end sum m.reaches
+          (rest (spend call units) u m.end (state-after call s x state lent a insn here u e)
+          (lent-after call s x state lent a insn here (call.fuel - units) u e) m.agrees_then left)
+      by-step insn here (moves.Returned, u) e most =
+          let sum = sum-is metered (is_loop_head code s.index) 0 in
+          let most-is : cond metered (cond (is_loop_head code s.index) 1 0 + 0) 0 ≤ call.fuel = most in
+          ends-so call s x state lent a insn here u (omega (arith, sum, most-is)) e
+      by-step insn here (moves.Blocked index kind addr, u) e most = tt
+
+      by-insn : (o : Option Insn) → slice_get code s.index ≡ o → total n s (step_at o s) ≤ call.fuel →
+          Follows p metered code call (total n s (step_at o s)) (ends_with (step_at o s).0 (step_at o s).1 (run_of code n (step_at o s).1)) x
+      by-insn None here most = tt
+      by-insn (Some insn) here most = by-step insn here (insn_outcome insn s) refl most
+
+  follow : (n : ℕ) → FollowsAll n
+  follow zero = follow-none
+  follow (suc n) = λ call s x state lent a enough. by-insn n (follow n) call s x state lent a (slice_get code s.index) refl enough
+
+pub follows : SimulatesRuns
+follows = λ p metered code call n s x ok of state lent a enough. follow p metered code ok of n call s x state lent a enough
+
+-- ---- out of fuel
+
+module _ (p : Places) (code : List Insn) (ok : IsCode code) (of : ArePlacesOf p code) where
+  abbrev text_of : List ℕ
+  text_of = native_text p true code
+
+  -- the last block ends the call
+  spent-leaves : (call : Call) (f : ℕ) (s : State) (x : X86) → IsLent call s.rights → x.at ≡ offset_of p true code (length code) →
+      Agrees p (record call { fuel = f }) s x →
+      Leaves p true code call 0 1 s x
+  spent-leaves call f s x lent at_end agrees =
+      let n : ℕ = length code in
+      let off : ℕ → ℕ = offset_of p true code in
+      let none : slice_get code n ≡ None = slice_get_past code n (omega arith) in
+      let is : placed_from off (off n) (block p true code n) ≡ spent_code p =
+      ap (λ o. placed_from off (off n) (block_at p true code n o)) none ∙ placed-plain off (off n) (spent_code p) in
+      let lies : Lies text_of x.at (spent_code p) =
+      subst (λ k. Lies text_of k (spent_code p)) (sym at_end)
+      (lies-as text_of (off n) (placed_from off (off n) (block p true code n)) (spent_code p) is (block-lies p true code n (omega arith))) in
+      let y : X86 = wrote x (x.at + 6) x.flags RAX 0 in
+      let zero-is = straight (MovZero RAX 0) (omega arith, omega arith) refl refl in
+      let to-y : Reaches text_of x y = reach-one text_of x y (MovZero RAX 0) (exit_code p 1) zero-is.insn lies refl in
+      let place : x.at + total_length (MovZero RAX 0 ∷ []) ≡ y.at = omega arith in
+      let behind : Lies text_of y.at (exit_code p 1) =
+      subst (λ k. Lies text_of k (exit_code p 1)) place (lies-back text_of x.at (MovZero RAX 0 ∷ []) (exit_code p 1) lies) in
+      let call_then : Call = record call { fuel = f } in
+      let y-agrees : Agrees p call_then s y =
+      agrees-same p call_then s x y of.places agrees (wrote-same x (x.at + 6) x.flags RAX 0 agrees.machine (omega arith) (omega arith)) in
+      let l =
+      leaves p call_then s of.places (lent-spent call f s.rights lent) y y-agrees text_of 0 1 (omega arith)
+      (wrote-reads x (x.at + 6) x.flags RAX 0 agrees.machine (omega arith)) behind in
+      leave-by p true code ok of call f 0 1 s x y to-y (record { count = l.count; end = l.end; left = l.left; returns = l.returns })
+
+  -- it does within n steps
+  abbrev SpendsAll : ℕ → Type 0
+  SpendsAll n =
+      (call : Call) (s : State) (x : X86) → IsState s → IsLent call s.rights → AgreesAt p true code call s x → call.fuel < arrivals code n s →
+      (k : ℕ) × (k ≤ n) × Leaves p true code call 0 1 (run_of code k s).1 x
+
+  module _ (n : ℕ) (rest : SpendsAll n) (call : Call) (s : State) (x : X86) (state : IsState s) (lent : IsLent call s.rights)
+      (a : AgreesAt p true code call s x)
+    where
+      abbrev at_head : Bool
+      at_head = is_loop_head code s.index
+
+      abbrev Spending : Type 0
+      Spending = (k : ℕ) × (k ≤ suc n) × Leaves p true code call 0 1 (run_of code k s).1 x
+
+      -- the unit that is wanted here is missing
+      missing : (insn : Insn) → slice_get code s.index ≡ Some insn → at_head ≡ true → call.fuel ≡ 0 → Spending
+      missing insn here head none =
+          let off : ℕ → ℕ = offset_of p true code in
+          let first : List NativeInsn = fuel_code p true code s.index in
+          let lies : Lies text_of x.at (placed_from off x.at first) =
+          subst (λ k. Lies text_of k (placed_from off k first)) (sym a.at) (charging-lies p true code ok of s.index insn here) in
+          let near_by = near p true code ok of s.index insn here in
+          let start = a.at in
+          let sp : Spent p true code ok of call s x =
+          spent p true code ok of call s x a.agrees (omega (arith, near_by, start))
+          (subst (λ b. Lies text_of x.at (placed_from off x.at (taking p true code ok of b))) head lies) none in
+          let l = spent-leaves call sp.fuel s sp.end lent sp.at sp.agrees in
+          (0, omega arith, leave-by p true code ok of call call.fuel 0 1 s x sp.end sp.reaches l)
+
+      -- the unit is there
+      there : (insn : Insn) → slice_get code s.index ≡ Some insn → (q : Step × State) → insn_outcome insn s ≡ q → cond at_head 1 0 ≤ call.fuel →
+          call.fuel < cond at_head 1 0 + if_moved q.0 (arrivals code n q.1) →
+          Spending
+      there insn here (moves.Moved, u) e enough more =
+          let m = steps-on p true code ok of call s x state lent a insn here u enough e in
+          let units : ℕ = cond at_head 1 0 in
+          let more-is : call.fuel < cond at_head 1 0 + arrivals code n u = more in
+          let less : call.fuel - units < arrivals code n u = omega (arith, enough, more-is) in
+          let r =
+          rest (spend call units) u m.end (state-after p true code ok of call s x state lent a insn here u e)
+          (lent-after p true code ok of call s x state lent a insn here (call.fuel - units) u e) m.agrees_then less in
+          let same : run_of code (suc r.0) s ≡ run_of code r.0 u =
+          ap (λ (o : Option Insn). let q = step_at o s in ends_with q.0 q.1 (run_of code r.0 q.1)) here
+          ∙ ap (λ (q : Step × State). ends_with q.0 q.1 (run_of code r.0 q.1)) e in
+          let k-low = r.1 in (
+            suc r.0,
+            omega (arith, k-low),
+            subst (λ (q : Outcome × State). Leaves p true code call 0 1 q.1 x) (sym same)
+                (leave-by p true code ok of call (call.fuel - units) 0 1 (run_of code r.0 u).1 x m.end m.reaches r.2),
+          )
+      there insn here (moves.Returned, u) e enough more =
+          let more-is : call.fuel < cond at_head 1 0 + 0 = more in absurd (omega (arith, enough, more-is))
+      there insn here (moves.Blocked index kind addr, u) e enough more =
+          let more-is : call.fuel < cond at_head 1 0 + 0 = more in absurd (omega (arith, enough, more-is))
+
+      by-head : (insn : Insn) → slice_get code s.index ≡ Some insn → call.fuel < arrivals code (suc n) s → Spending
+      by-head insn here more =
+          let as-insn : arrivals code (suc n) s ≡ cond at_head 1 0 + if_moved (insn_outcome insn s).0 (arrivals code n (insn_outcome insn s).1) =
+          ap (λ (o : Option Insn). let q = step_at o s in cond at_head 1 0 + if_moved q.0 (arrivals code n q.1)) here in
+          let most : call.fuel < cond at_head 1 0 + if_moved (insn_outcome insn s).0 (arrivals code n (insn_outcome insn s).1) =
+          subst (λ k. call.fuel < k) as-insn more in
+          elim (cases_eq call.fuel 0) [
+            | inl none ↦ elim (cases_Bool at_head) [
+              | inl is ↦ missing insn here is none
+              | inr other ↦ let u = no-unit at_head other in there insn here (insn_outcome insn s) refl (omega (arith, u)) most
+            ]
+            | inr some ↦ there insn here (insn_outcome insn s) refl (let u = unit-most at_head in omega (arith, u, some)) most
+          ]
+
+      outside : slice_get code s.index ≡ None → call.fuel < arrivals code (suc n) s → Spending
+      outside none more = elim (cases_Bool at_head) [
+        | inl is ↦
+            let low : s.index < length code = head-inside code s.index is in
+            absurd (missing-insn code s.index low none)
+        | inr other ↦
+            let as-none : arrivals code (suc n) s ≡ cond at_head 1 0 + 0 =
+            ap (λ (o : Option Insn). let q = step_at o s in cond at_head 1 0 + if_moved q.0 (arrivals code n q.1)) none in
+            let u = no-unit at_head other in
+            absurd (omega (arith, more, as-none, u))
+      ]
+
+      by-option : (o : Option Insn) → slice_get code s.index ≡ o → call.fuel < arrivals code (suc n) s → Spending
+      by-option None here more = outside here more
+      by-option (Some insn) here more = by-head insn here more
+
+  spend-all : (n : ℕ) → SpendsAll n
+  spend-all zero = λ call s x state lent a more. absurd (omega (arith, more))
+  spend-all (suc n) = λ call s x state lent a more. by-option n (spend-all n) call s x state lent a (slice_get code s.index) refl more
+
+pub spends : Spends
+spends = λ p code call n s x ok of state lent a more. spend-all p code ok of n call s x state lent a more

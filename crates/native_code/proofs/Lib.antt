@@ -1,0 +1,10 @@
+pub mod Texts
+pub mod Walking
+pub mod Heading
+pub mod Reaching
+pub mod Leaving
+pub mod Entering
+pub mod Called
+pub mod Fitting
+pub mod Stepping
+pub mod Following

@@ -1,0 +1,4 @@
+pub mod Heads
+pub mod Blocks
+pub mod Layout
+pub mod Calls

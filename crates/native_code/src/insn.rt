@@ -1,0 +1,15 @@
+//! Instructions whose jumps name a block.
+
+use x86_words::{X86Cond, X86Insn};
+
+/// An instruction of native code. A jump names its target by the index of a block: that of an Alpha
+/// instruction, or the one after the last, which ends runs that are out of fuel.
+#[derive(Clone, Copy, Debug, PartialEq, Eq)]
+pub enum NativeInsn {
+    /// An instruction that doesn't jump.
+    Plain(X86Insn),
+    /// `jmp` to a block.
+    Go(u32),
+    /// `jCOND` to a block, if the condition holds.
+    GoIf(X86Cond, u32),
+}

@@ -1,0 +1,23 @@
+//! Theorems about the definitions, with nothing to run.
+
+ghost use Rattle.std.specs.Prelude.{◌≡◌, ℕ, ◌↔◌, true, List};
+ghost use Rattle.alpha_words.specs.declared.insn.Insn.{Insn};
+ghost use Rattle.native_code.specs.Heads.{IsLoopHead, is_loop_head};
+ghost use Rattle.native_code.specs.Calls.{Called, SimulatesRuns, Spends};
+
+/// Proves that the test for loop heads is exact.
+pub fn head_laws()
+    ensures heads { (code : List Insn) (head : ℕ) → (is_loop_head code head ≡ true)
+        ↔ IsLoopHead code head }
+{}
+
+/// Proves what calls of native code do.
+///
+/// Every call comes to the first block, in agreement with the Alpha state at index 0 (`called`). From
+/// there native code follows the Alpha run, if the fuel is enough for its arrivals at loop heads
+/// (`simulates`); if not, the call ends with 1 in rdx (`spends`).
+pub fn laws()
+    ensures called { Called }
+    ensures simulates { SimulatesRuns }
+    ensures spends { Spends }
+{}

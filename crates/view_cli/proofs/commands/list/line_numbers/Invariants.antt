@@ -1,5 +1,0 @@
-use Rattle.std.proofs.Common.{◌≡◌, map, take}
-use Rattle.view_cli.proofs.commands.list.line_numbers.Given as goal
-
-abbrev pub invariant-loop-line : goal.invariant-loop-line
-invariant-loop-line l = l.lines.items ≡ map (λ p. p.0) (take l.line-index l.insns)

@@ -1,0 +1,5 @@
+pub mod Adding
+pub mod Copying
+pub mod ShownTexts
+pub mod Nodes
+pub mod Encoded

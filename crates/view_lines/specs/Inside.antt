@@ -1,0 +1,3 @@
+-- Words of the private functions.
+pub mod Nodes
+pub mod Copies
