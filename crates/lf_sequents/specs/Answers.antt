@@ -61,16 +61,25 @@ pub record Concludes (sig : Const → Option Tree) (before after : TableView) (i
   pub term : tree_at after s.term ≡ by_rule n (trees_of before params) (proofs_taken before r.premises premises)
   pub sequent : IsSequent sig after s
 
+-- the term of the rule's conclusion checks at it; where a shift or a substitution in the rule's instance has no result, it
+-- doesn't
+abbrev pub Derives : (Const → Option Tree) → TableView → List ℕ → List ℕ → ℕ → Rule → List Sequent → Type 0
+Derives sig t hyps params n r premises =
+    Checks sig (ctx_of t hyps) (by_rule n (trees_of t params) (proofs_taken t r.premises premises))
+    (pf (form_with r.conclusion (nth_arg (trees_of t params))))
+
 -- the answer by a row of the table of rules; where there is none, none
 abbrev pub IsRowAnswer : (Const → Option Tree) → TableView → TableView → List ℕ → List ℕ → ℕ → Option Rule → List Sequent → Option Sequent → Type 0
 IsRowAnswer sig before after hyps params n None premises o = o ≡ None
-IsRowAnswer sig before after hyps params n (Some r) premises None = HasForm sig before hyps params r premises → ⊥
+IsRowAnswer sig before after hyps params n (Some r) premises None =
+    HasForm sig before hyps params r premises → Derives sig before hyps params n r premises → ⊥
 IsRowAnswer sig before after hyps params n (Some r) premises (Some s) = HasForm sig before hyps params r premises × Concludes sig before after hyps params n r premises s
 
 -- the rule of a number that the signature has
 abbrev pub rule_in_signature : (Const → Option Tree) → ℕ → Option Rule
 rule_in_signature sig n = if is_some (sig (Num n)) then rule_at n else None
 
--- the answer of rule n: the conclusion's sequent exactly where the signature has the rule, and parameters and premises have its form
+-- the answer of rule n: the conclusion's sequent exactly where the signature has the rule, parameters and premises have its
+-- form, and the conclusion's term checks
 abbrev pub IsRuleAnswer : ℕ → (Const → Option Tree) → TableView → TableView → List ℕ → List ℕ → List Sequent → Option Sequent → Type 0
 IsRuleAnswer n sig before after hyps params premises o = IsRowAnswer sig before after hyps params n (rule_in_signature sig n) premises o

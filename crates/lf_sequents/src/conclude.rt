@@ -1,10 +1,12 @@
 //! Builds the sequent of a rule's conclusion.
 
-ghost use Rattle.std.specs.Prelude.{◌≡◌, false, ◌≤◌, ◌<◌, ◌+◌, ◌^◌, IfOk, IsTrue, map, length};
-ghost use Rattle.term_table.specs.Tree.{apps};
-ghost use Rattle.term_table.specs.Table.{IsKnown, AllKnown, tree_at, Extends};
+ghost use Rattle.std.specs.Prelude.{◌≡◌, ◌↔◌, false, ◌≤◌, ◌<◌, ◌+◌, ◌^◌, IfOk, IsTrue, map, length};
+ghost use Rattle.term_table.specs.Tree.{Tree, apps};
+ghost use Rattle.term_table.specs.Table.{IsKnown, AllKnown, tree_at, ctx_of, Extends};
 ghost use Rattle.lf_signature.specs.Schemas.{premise_of};
 ghost use Rattle.lf_signature.specs.Nodes.{IsIdOf};
+ghost use Rattle.lf_signature.specs.Terms.{pf};
+ghost use Rattle.lf_signature.specs.Typing.{Checks, Synth};
 ghost use Rattle.hereditary_subst.specs.Limits.{is_limited, limit_of};
 ghost use Rattle.lf_check.specs.Kept.{AreKept};
 ghost use Rattle.lf_terms.specs.Instance.{trees_of};
@@ -15,9 +17,9 @@ ghost use Rattle.lf_sequents.specs.Room.{sequents_of, terms_of, AreShallow, HasV
 use crate::instance::form_id;
 use crate::premises::{are_typed, do_fit};
 use crate::sequent::Sequent;
-use lf_check::Kept;
+use lf_check::{Kept, check_term_with, synth_with};
 use lf_signature::schema::Premise;
-use lf_signature::{Known, declared, rule_at};
+use lf_signature::{Known, Signature, declared, pf, rule_at};
 use lf_terms::rule_term;
 use std::alloc::{AllocError, Global};
 use term_table::{Id, Node, Table};
@@ -99,6 +101,113 @@ fn with_proofs(
     }
 }
 
+/// Whether the term has a type. It has none if a shift or a substitution in that type has no result.
+fn has_type<S: Signature>(
+    table: &mut Table,
+    kept: &mut Kept,
+    sig: &S,
+    hyps: &[Id],
+    term: Id,
+) -> Result<bool, AllocError>
+    requires holds { S.holds sig.now table.old }
+    requires hyps { AllKnown table.old hyps.now }
+    requires term { IsKnown table.old term }
+    requires kept { AreKept (S.declares sig.now table.old) table.old kept.old }
+    requires unlimited { is_limited kept.old.memo ≡ false }
+    ensures none { let ctx = ctx_of table.old hyps.now in
+        let types = Synth (S.declares sig.now table.old) ctx (tree_at table.old term) in
+        IfOk result (λ b. b ≡ false → (a : Tree) → types a → ⊥) }
+    ensures extends { Extends table.old table.new }
+    ensures kept { AreKept (S.declares sig.now table.new) table.new kept.new }
+    ensures unlimited { is_limited kept.new.memo ≡ false }
+{
+    match synth_with(table, kept, sig, hyps, term) {
+        Ok(None) => Ok(false),
+        Ok(Some(_)) => Ok(true),
+        Err(e) => Err(e.memory()),
+    }
+}
+
+/// Whether the term is a proof of the formula.
+fn is_proof<S: Signature>(
+    table: &mut Table,
+    kept: &mut Kept,
+    sig: &S,
+    hyps: &[Id],
+    term: Id,
+    goal: Id,
+) -> Result<bool, AllocError>
+    requires holds { S.holds sig.now table.old }
+    requires hyps { AllKnown table.old hyps.now }
+    requires term { IsKnown table.old term }
+    requires goal { IsKnown table.old goal }
+    requires kept { AreKept (S.declares sig.now table.old) table.old kept.old }
+    requires unlimited { is_limited kept.old.memo ≡ false }
+    ensures exact { let ctx = ctx_of table.old hyps.now in
+        let proofs = pf (tree_at table.old goal) in
+        let holds = Checks (S.declares sig.now table.old) ctx (tree_at table.old term) proofs in
+        IfOk result (λ b. IsTrue b ↔ holds) }
+    ensures extends { Extends table.old table.new }
+    ensures kept { AreKept (S.declares sig.now table.new) table.new kept.new }
+    ensures unlimited { is_limited kept.new.memo ≡ false }
+{
+    let proofs = pf(table, goal)?;
+    match check_term_with(table, kept, sig, hyps, term, proofs) {
+        Ok(proves) => Ok(proves),
+        Err(e) => Err(e.memory()),
+    }
+}
+
+/// The answer of `by_rule` if a variable might reach 2^32: the term of the conclusion is made first,
+/// and checked. If it has no type, there is no sequent, and no formula is made.
+fn conclude_by_check<S: Known>(
+    alloc: Global,
+    table: &mut Table,
+    sig: &S,
+    kept: &mut Kept,
+    hyps: &[Id],
+    number: u32,
+    params: &[Id],
+    premises: &[&Sequent],
+) -> Result<Option<Sequent>, AllocError>
+    requires holds { S.Signature.holds sig.now table.old }
+    requires hyps { AllKnown table.old hyps.now }
+    requires params { AllKnown table.old params.now }
+    requires premises { AreSequents (S.Signature.declares sig.now table.old) table.old
+        (sequents_of premises.now) }
+    requires kept { AreKept (S.Signature.declares sig.now table.old) table.old kept.old }
+    requires unlimited { is_limited kept.old.memo ≡ false }
+    ensures answer { let sig = S.Signature.declares sig.now table.old in
+        IfOk result (IsRuleAnswer number sig table.old table.new hyps.now params.now
+        (sequents_of premises.now)) }
+    ensures extends { Extends table.old table.new }
+    ensures kept { AreKept (S.Signature.declares sig.now table.new) table.new kept.new }
+{
+    let Some(rule) = rule_at(number) else {
+        return Ok(None);
+    };
+    if declared(table, sig, Node::Const(number))?.is_none() {
+        return Ok(None);
+    }
+    let head = rule_term(table, number, params)?;
+    let term = with_proofs(table, head, rule.premises, premises)?;
+    if !has_type(table, kept, sig, hyps, term)? {
+        return Ok(None);
+    }
+    if !are_typed(table, kept, sig, hyps, rule.parameters, params)? {
+        return Ok(None);
+    }
+    if !do_fit(table, &mut kept.memo, hyps, params, rule.premises, premises)? {
+        return Ok(None);
+    }
+    let goal = form_id(table, &mut kept.memo, params, 0, &rule.conclusion)?;
+    if !is_proof(table, kept, sig, hyps, term, goal)? {
+        return Ok(None);
+    }
+    let hyps = hyps.to_vec(alloc)?;
+    Ok(Some(Sequent { hyps, goal, term }))
+}
+
 /// The answer of `by_rule`, with cached results that have no limit.
 fn conclude_rule<S: Known>(
     alloc: Global,
@@ -127,7 +236,7 @@ fn conclude_rule<S: Known>(
         return Ok(None);
     };
     if !has_room(table, hyps, params, premises) {
-        return Err(AllocError);
+        return conclude_by_check(alloc, table, sig, kept, hyps, number, params, premises);
     }
     if !are_typed(table, kept, sig, hyps, rule.parameters, params)? {
         return Ok(None);
@@ -146,10 +255,11 @@ fn conclude_rule<S: Known>(
 }
 
 /// Returns the sequent of the conclusion of the rule with this number, at these parameters and
-/// premises, under the hypotheses `hyps`: None if the signature lacks the rule, or if they don't
-/// have its form. What it caches doesn't count towards a limit of `kept`.
+/// premises, under the hypotheses `hyps`: None if the signature lacks the rule, if they don't have
+/// its form, or if the conclusion's term doesn't check, since a variable would reach 2^32. What it
+/// caches doesn't count towards a limit of `kept`.
 ///
-/// Errors: out of memory, also if a variable might reach 2^32; each id keeps its tree.
+/// Errors: out of memory alone; each id keeps its tree.
 pub fn by_rule<S: Known>(
     alloc: Global,
     table: &mut Table,
