@@ -4,3 +4,4 @@ pub mod EndLemmas
 pub mod CheckLemmas
 pub mod HostLemmas
 pub mod HeadlineLemmas
+pub mod ClauseLemmas

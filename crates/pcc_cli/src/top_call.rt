@@ -4,7 +4,6 @@ ghost use Rattle.std.specs.Prelude.{◌≡◌, ℕ, List, map, string_bytes};
 ghost use Rattle.file_port.specs.Events.{Event};
 ghost use Rattle.file_port.specs.Files.{FilesState};
 ghost use Rattle.file_port.specs.Sink.{SinkState};
-ghost use Rattle.pcc_words.specs.Invocations.{command_of};
 ghost use Rattle.pcc_stages.specs.Runs.{Runs, Prints};
 ghost use Rattle.pcc_stages.specs.Ends.{Ends};
 ghost use Rattle.pcc_stages.specs.Accounts.{Accounts};
@@ -12,7 +11,10 @@ ghost use Rattle.pcc_stages.specs.Texts.{texts};
 ghost use Rattle.pcc_stages.specs.Decisions.{Decides, exit_of};
 ghost use Rattle.pcc_commands.specs.Tasks.{task_of, request_of};
 ghost use Rattle.pcc_gate.specs.Safe.{AcceptedSafe};
-ghost use Rattle.pcc_cli.specs.Headline.{MeansIfCommand, AcceptedRunsSafely, AgentsStayInParts};
+ghost use Rattle.pcc_cli.specs.Clauses.{DoesCheck, DoesCheckFrom, DoesRun, DoesRef, DoesAsm};
+ghost use Rattle.pcc_cli.specs.Clauses.{DoesProve, DoesProveExactly, DoesDemo, DoesUpgrade};
+ghost use Rattle.pcc_cli.specs.Clauses.{Refuses, DoesHost, DoesCompile, DoesCompileExactly, DoesNothing};
+ghost use Rattle.pcc_cli.specs.Headline.{IsVerdict, AcceptedRunsSafely, AgentsStayInParts};
 ghost use Rattle.pcc_cli.specs.Headline.{BoundedReturns};
 ghost use Rattle.pcc_commands.specs.Reports.{report_exit};
 
@@ -99,7 +101,36 @@ pub fn pcc<F: Files, S: Sink>(alloc: Global, words: Vec<String>, files: &mut F, 
     ensures runs { Runs texts (task_of (map string_bytes words.items)).stage
         (F.log files.old) (F.log files.new) (F.state files.old) (F.state files.new)
         (S.state out.old) (S.state out.new) result }
-    ensures means { MeansIfCommand (command_of (map string_bytes words.items))
+    ensures checks { DoesCheck (map string_bytes words.items)
+        (F.log files.old) (F.log files.new) (S.state out.old) (S.state out.new) result
+        IsVerdict }
+    ensures checks_from { DoesCheckFrom (map string_bytes words.items)
+        (F.log files.old) (F.log files.new) (S.state out.old) (S.state out.new) result
+        IsVerdict }
+    ensures runs_code { DoesRun (map string_bytes words.items)
+        (F.log files.old) (F.log files.new) (S.state out.old) (S.state out.new) result
+        IsVerdict }
+    ensures refuses { Refuses (map string_bytes words.items)
+        (F.log files.old) (F.log files.new) (S.state out.old) (S.state out.new) result }
+    ensures refers { DoesRef (map string_bytes words.items)
+        (F.log files.old) (F.log files.new) (S.state out.old) (S.state out.new) result }
+    ensures assembles { DoesAsm (map string_bytes words.items)
+        (F.log files.old) (F.log files.new) (S.state out.old) (S.state out.new) result }
+    ensures proves { DoesProve (map string_bytes words.items)
+        (F.log files.old) (F.log files.new) (S.state out.old) (S.state out.new) result }
+    ensures proves_exactly { DoesProveExactly (map string_bytes words.items)
+        (F.log files.old) (F.log files.new) (S.state out.old) (S.state out.new) result }
+    ensures demonstrates { DoesDemo (map string_bytes words.items)
+        (F.log files.old) (F.log files.new) (S.state out.old) (S.state out.new) result }
+    ensures upgrades { DoesUpgrade (map string_bytes words.items)
+        (F.log files.old) (F.log files.new) (S.state out.old) (S.state out.new) result }
+    ensures hosts { DoesHost (map string_bytes words.items)
+        (F.log files.old) (F.log files.new) (S.state out.old) (S.state out.new) result }
+    ensures compiles { DoesCompile (map string_bytes words.items)
+        (F.log files.old) (F.log files.new) (S.state out.old) (S.state out.new) result }
+    ensures compiles_exactly { DoesCompileExactly (map string_bytes words.items)
+        (F.log files.old) (F.log files.new) (S.state out.old) (S.state out.new) result }
+    ensures no_command { DoesNothing (map string_bytes words.items)
         (F.log files.old) (F.log files.new) (S.state out.old) (S.state out.new) result }
     ensures ends { Ends (request_of (map string_bytes words.items))
         (F.state files.old) (F.state files.new) (S.state out.old) (S.state out.new) result }
@@ -120,6 +151,7 @@ pub fn pcc<F: Files, S: Sink>(alloc: Global, words: Vec<String>, files: &mut F, 
     gate_upgrade::laws();
     alpha_cfg::isolation_laws();
     alpha_turns::part_laws();
+    agent_script::laws();
     let decision = decide(alloc, words.as_slice(), files);
     print(decision, out)
 }
