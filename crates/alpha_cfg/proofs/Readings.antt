@@ -1,6 +1,6 @@
 -- The answer to bytes of code is what they read as.
 use Rattle.word_ops.specs.declared.Profile.{Profile}
-use Rattle.std.proofs.Common.{◌≡◌, ℕ, zero, suc, ◌+◌, ◌-◌, ◌*◌, ◌/◌, ◌<◌, ◌≤◌, Bool, true, false, is_some, List, [], ◌∷◌, ◌++◌, length, length-append, slice_get, Option, Some, None, Result, Ok, Err, refl, sym, subst, arith, ℤ, pos, negsuc}
+use Rattle.std.proofs.Common.{◌≡◌, ℕ, zero, suc, ◌+◌, ◌-◌, ◌*◌, ◌/◌, ◌<◌, ◌≤◌, Bool, true, false, is_some, List, [], ◌∷◌, ◌++◌, length, length-append, slice_get, Option, Some, None, Result, Ok, Err, IfErr, IsErrAnd, refl, sym, ◌∙◌, ap, subst, arith, ℤ, pos, negsuc}
 use Rattle.std.proofs.lemmas.Bool.{ltb-true, lt-ltb}
 use Rattle.alpha_words.specs.declared.insn.Insn.{Insn}
 use Rattle.alpha_words.specs.declared.fault.BadWord.{BadWord}
@@ -16,6 +16,7 @@ use Rattle.alpha_cfg.specs.declared.fault.CodeFault.{CodeFault}
 use Rattle.alpha_cfg.specs.declared.fault.CodeFault.TheVariants as fault
 use Rattle.alpha_cfg.specs.Flow.{InsideOf, IsInside, IsFinalAt, IsCode, AreInsns, next_of, AreOfProfile}
 use Rattle.alpha_cfg.specs.CodeBytes.{code_word_at, EncodesFirst, EncodesCode, IsShapeFlaw, IsFlaw, IsCodeAnswer}
+use Rattle.alpha_cfg.specs.Inside.Words.{IsFlawAt}
 use Rattle.alpha_cfg.specs.CodeDecoding.{decoded_words, is_inside, first_outside, runs_off, decoded_code, IsDecoded}
 
 module _ (p : Profile) where
@@ -211,3 +212,18 @@ module _ (p : Profile) where
         each = λ i x at. let z : 0 + i ≡ i = omega arith in
             subst (λ j. Encodes p (code_word_at bytes j) x) z (one_more bytes code 0 i x insn (λ k y g. let w : k ≡ 0 + k = omega arith in subst (λ j. Encodes p (code_word_at bytes j) y) w (h.each k y g)) (subst (λ j. Encodes p (code_word_at bytes j) insn) here e) at);
       }
+
+  -- the flaw of word i is the first, where those before it encode instructions
+  pub flaw-first : (bytes : List ℕ) (i : ℕ) (code : List Insn) (f : CodeFlaw) → EncodesFirst p bytes i code → 4 * i + 4 ≤ length bytes
+      → IsFlawAt p bytes i f → IsFlaw p bytes f
+  flaw-first bytes i code (flaw.BadWord k word bad) first within h =
+      let here : i ≡ k = sym h.0 in
+      (h.1 ∙ ap (code_word_at bytes) here, h.2, subst (λ j. 4 * j + 4 ≤ length bytes) here within, (code, subst (λ j. EncodesFirst p bytes j code) here first))
+  flaw-first bytes i code (flaw.Target k) first within h = absurd h
+  flaw-first bytes i code (flaw.FallsOff k) first within h = absurd h
+
+  -- an error that tells this flaw is right
+  pub fault-answers : {A : Type 0} (bytes : List ℕ) (f : CodeFlaw) (r : Result A CodeFault) → IsFlaw p bytes f → IsErrAnd r (λ e. e ≡ fault.At f)
+      → IfErr r (λ e. IsCodeAnswer p bytes (Err e))
+  fault-answers bytes f (Ok x) h is = tt
+  fault-answers bytes f (Err e) h is = subst (λ x. IsCodeAnswer p bytes (Err x)) (sym is) h

@@ -39,7 +39,7 @@ abbrev number_or_none : Option PolicyKind → ℕ
 number_or_none None = 0
 number_or_none (Some kind) = kind_number kind
 
-kind-numbered : (n : ℕ) (kind : PolicyKind) → kind_numbered n ≡ Some kind → n ≡ kind_number kind
+pub kind-numbered : (n : ℕ) (kind : PolicyKind) → kind_numbered n ≡ Some kind → n ≡ kind_number kind
 kind-numbered n kind e = by (n == 1) refl (n == 2) refl (n == 3) refl e
   where
     by : (one : Bool) → (n == 1) ≡ one → (two : Bool) → (n == 2) ≡ two → (three : Bool)

@@ -1,8 +1,8 @@
 -- What bytes are upgraded to speaks of the tests of their upgrade.
-use Rattle.std.proofs.Common.{◌≡◌, ◌≢◌, ◌↔◌, inl, inr, ℕ, ◌+◌, ◌≤◌, ◌<◌, Bool, true, false, cond, nat_lt, List, [], ◌∷◌, length, Option, Some, None}
-use Rattle.std.proofs.Common.{Result, Ok, Err, refl, sym, ap, ◌∙◌, subst, arith}
+use Rattle.std.proofs.Common.{◌≡◌, ◌≢◌, ◌↔◌, inl, inr, ℕ, ◌+◌, ◌≤◌, ◌<◌, Bool, true, false, cond, nat_lt, List, length, Option, Some, None}
+use Rattle.std.proofs.Common.{Result, Ok, Err, refl, sym, ap, ◌∙◌, arith}
 use Rattle.std.proofs.lemmas.Bool.{ltb-true, ltb-false}
-use Rattle.word_ops.specs.Tests.{TestFor, test, Answers, IsSharp, AreSharp}
+use Rattle.word_ops.specs.Tests.{Answers, IsSharp, AreSharp}
 use Rattle.word_ops.proofs.Tests.{test-sharp, flaw-exactly}
 use Rattle.term_table.specs.Bytes.{IsBytes}
 use Rattle.term_table.specs.Steps.{◌>>=◌}
@@ -22,8 +22,8 @@ use Rattle.gate_upgrade.specs.declared.fault.UpgradeFlaw.{UpgradeFlaw}
 use Rattle.gate_upgrade.specs.declared.fault.UpgradeFlaw.TheVariants as flaw
 use Rattle.gate_upgrade.specs.declared.limits.TheConstants.{GROWTH}
 use Rattle.gate_upgrade.specs.Laws.{UpgradeRefused}
-use Rattle.gate_upgrade.specs.Upgrading.{kind_numbered, with_digest, contents_in, number_in, kind_found, size_within, upgraded_container}
-use Rattle.gate_upgrade.specs.UpgradeTests.{is_container, is_first_version, is_built_in, upgrade_tests, IsUpgradeFlaw}
+use Rattle.gate_upgrade.specs.Upgrading.{kind_numbered, with_digest, number_in, kind_found, size_within, upgraded_container}
+use Rattle.gate_upgrade.specs.UpgradeTests.{is_container, is_first_version, is_built_in, upgrade_tests}
 use Rattle.gate_upgrade.proofs.Exactly.{DecodesExactly, numbered-kind, kind-numbered}
 
 -- the fault that reading a container gives is the first of its tests that fails, by the laws of containers

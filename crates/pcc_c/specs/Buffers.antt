@@ -30,7 +30,7 @@ pub record LeavesBuffer (RanOut : ℕ → Type 0) (old new : List ℕ) (count st
   pub unchanged : new ≡ old
 
 -- what the call makes is stored, or the line that says why it makes nothing, unless something ran out
-abbrev pub Answers : (ℕ → Type 0) → Result (List ℕ) Reason → List ℕ → List ℕ → ℕ → ℕ → Type 0
-Answers RanOut answer old new count status =
+abbrev pub AnswersIn : (ℕ → Type 0) → Result (List ℕ) Reason → List ℕ → List ℕ → ℕ → ℕ → Type 0
+AnswersIn RanOut answer old new count status =
     LeavesBuffer RanOut old new count status
     ⊎ StoresIn (answer_text answer) (answer_status answer) old new count status

@@ -12,7 +12,7 @@ ghost use Rattle.pcc_c.specs.declared.statuses.TheConstants.{DONE, BAD_SOURCE};
 ghost use Rattle.pcc_c.specs.Statuses.{IsNoMemory};
 ghost use Rattle.pcc_c.specs.Assembling.{bound_given, source_given, container_written, asm_answer};
 ghost use Rattle.pcc_c.specs.Assembling.{IsContainerOf, IsAssemblyFor, HasNoAssembly};
-ghost use Rattle.pcc_c.specs.Buffers.{Answers};
+ghost use Rattle.pcc_c.specs.Buffers.{AnswersIn};
 ghost use Rattle.pcc_c.specs.Inside.Answers.{IsDue, IfAt};
 
 use crate::buffers::tell;
@@ -134,7 +134,7 @@ pub extern "C" fn pcc_asm(
     out: &mut [u8],
     written: &mut usize,
 ) -> u32
-    ensures exact { Answers IsNoMemory (asm_answer version bound policy.now text.now)
+    ensures exact { AnswersIn IsNoMemory (asm_answer version bound policy.now text.now)
         out.old out.new written.new result }
     ensures assembles { result ≡ DONE
         → IsAssemblyFor version bound policy.now text.now (take written.new out.new) }

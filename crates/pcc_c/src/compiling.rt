@@ -6,7 +6,7 @@ ghost use Rattle.bpf_words.specs.Reading.{program_of};
 ghost use Rattle.pcc_c.specs.declared.statuses.TheConstants.{DONE};
 ghost use Rattle.pcc_c.specs.Statuses.{IsShortage};
 ghost use Rattle.pcc_c.specs.Compiling.{program_read, bpf_answer, IsCompiledFrom};
-ghost use Rattle.pcc_c.specs.Buffers.{Answers};
+ghost use Rattle.pcc_c.specs.Buffers.{AnswersIn};
 ghost use Rattle.pcc_c.specs.Inside.Answers.{IsDue};
 
 use crate::buffers::tell;
@@ -55,7 +55,7 @@ fn bpf_answer(alloc: Global, bytes: &[u8]) -> Result<Vec<u8>, Fault>
 /// returns `NO_MEMORY` or `TOO_MANY_RESULTS`, `written` gets 0 and the buffer is unchanged.
 #[unsafe(no_mangle)]
 pub extern "C" fn pcc_bpf(alloc: Global, bytes: &[u8], out: &mut [u8], written: &mut usize) -> u32
-    ensures exact { Answers IsShortage (bpf_answer bytes.now) out.old out.new written.new result }
+    ensures exact { AnswersIn IsShortage (bpf_answer bytes.now) out.old out.new written.new result }
     ensures compiled { result ≡ DONE → IsCompiledFrom bytes.now (take written.new out.new) }
 {
     let made = bpf_answer(alloc, bytes);

@@ -4,7 +4,7 @@ ghost use Rattle.std.specs.Prelude.{◌≤◌};
 ghost use Rattle.pcc_c.specs.declared.buffers.TheConstants.{LINE};
 ghost use Rattle.pcc_c.specs.Statuses.{IsShortage};
 ghost use Rattle.pcc_c.specs.Checking.{explain_answer, SafeIfDone};
-ghost use Rattle.pcc_c.specs.Buffers.{Answers};
+ghost use Rattle.pcc_c.specs.Buffers.{AnswersIn};
 
 use crate::buffers::{store, tell_fault};
 use crate::checking::check_answer;
@@ -25,7 +25,7 @@ pub extern "C" fn pcc_explain(
     out: &mut [u8],
     written: &mut usize,
 ) -> u32
-    ensures exact { Answers IsShortage (explain_answer policy.now bytes.now)
+    ensures exact { AnswersIn IsShortage (explain_answer policy.now bytes.now)
         out.old out.new written.new result }
     ensures safe { SafeIfDone policy.now bytes.now result }
     ensures short { written.new ≤ LINE }

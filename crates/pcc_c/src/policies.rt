@@ -4,7 +4,7 @@ ghost use Rattle.std.specs.Prelude.{◌≡◌, IfOk, take};
 ghost use Rattle.policy_set.specs.Names.{kind_of, policy_of};
 ghost use Rattle.pcc_c.specs.Statuses.{IsNoMemory};
 ghost use Rattle.pcc_c.specs.Policies.{policy_reason, policy_given, policy_for, digest_answer};
-ghost use Rattle.pcc_c.specs.Buffers.{Answers};
+ghost use Rattle.pcc_c.specs.Buffers.{AnswersIn};
 ghost use Rattle.pcc_c.specs.Inside.Answers.{IsDue};
 
 use crate::buffers::tell;
@@ -109,7 +109,7 @@ pub extern "C" fn pcc_policy(
     out: &mut [u8],
     written: &mut usize,
 ) -> u32
-    ensures exact { Answers IsNoMemory (digest_answer policy.now)
+    ensures exact { AnswersIn IsNoMemory (digest_answer policy.now)
         out.old out.new written.new result }
 {
     let made = digest_answer(alloc, policy);

@@ -7,7 +7,7 @@ ghost use Rattle.pcc_c.specs.declared.statuses.TheConstants.{DONE};
 ghost use Rattle.pcc_c.specs.Statuses.{IsShortage};
 ghost use Rattle.pcc_c.specs.Proving.{prove_reason, container_proven, prove_answer};
 ghost use Rattle.pcc_c.specs.Proving.{IsAcceptedUnder};
-ghost use Rattle.pcc_c.specs.Buffers.{Answers};
+ghost use Rattle.pcc_c.specs.Buffers.{AnswersIn};
 ghost use Rattle.pcc_c.specs.Inside.Answers.{IsDue};
 
 use crate::buffers::tell;
@@ -72,7 +72,7 @@ pub extern "C" fn pcc_prove(
     out: &mut [u8],
     written: &mut usize,
 ) -> u32
-    ensures exact { Answers IsShortage (prove_answer policy.now bytes.now)
+    ensures exact { AnswersIn IsShortage (prove_answer policy.now bytes.now)
         out.old out.new written.new result }
     ensures accepted { result ≡ DONE → IsAcceptedUnder policy.now (take written.new out.new) }
 {

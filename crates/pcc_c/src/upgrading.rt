@@ -5,7 +5,7 @@ ghost use Rattle.gate_upgrade.specs.Upgrades.{IsUpgrade};
 ghost use Rattle.pcc_c.specs.declared.statuses.TheConstants.{DONE};
 ghost use Rattle.pcc_c.specs.Statuses.{IsNoMemory};
 ghost use Rattle.pcc_c.specs.Upgrading.{upgrade_answer, upgrade_reason, KeepsAcceptance};
-ghost use Rattle.pcc_c.specs.Buffers.{Answers};
+ghost use Rattle.pcc_c.specs.Buffers.{AnswersIn};
 ghost use Rattle.pcc_c.specs.Inside.Answers.{IsDue};
 
 use crate::buffers::tell;
@@ -70,7 +70,7 @@ pub extern "C" fn pcc_upgrade(
     out: &mut [u8],
     written: &mut usize,
 ) -> u32
-    ensures exact { Answers IsNoMemory (upgrade_answer bytes.now)
+    ensures exact { AnswersIn IsNoMemory (upgrade_answer bytes.now)
         out.old out.new written.new result }
     ensures upgrade { result ≡ DONE → IsUpgrade bytes.now (take written.new out.new) }
     ensures accepted { result ≡ DONE → KeepsAcceptance bytes.now (take written.new out.new) }

@@ -36,7 +36,7 @@ module _ (gate : GateLaws) (policies : ReadsPolicies) (name file : List ℕ) whe
   abbrev pub checked_by : List ℕ → Stage Effect
   checked_by text = policy_in text >>= judged_behind
 
-  checked-spelled : (text : List ℕ) (policy : PolicyView) → policy_read text ≡ Ok policy
+  pub checked-spelled : (text : List ℕ) (policy : PolicyView) → policy_read text ≡ Ok policy
       → checked_by text ≡ judged_behind policy
   unfolding policy_in
   checked-spelled text policy is = ap (λ r. policy_spelled r >>= judged_behind) is

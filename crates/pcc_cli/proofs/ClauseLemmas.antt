@@ -34,7 +34,7 @@ happens_both (was_read name max given ∷ first) rest f g n h r = (h.0, h.1, h.2
 happens_both (was_written name bytes answer ∷ first) rest f g n h r = (h.0, h.1, happens_both first rest h.0 g n h.2 r)
 happens_both (was_put piece answer ∷ first) rest f g n h r = absurd h
 
-follows_both : (first rest : List Event) (s m l : Stage Effect) → Follows texts first s m → Follows texts rest m l → Follows texts (first ++ rest) s l
+pub follows_both : (first rest : List Event) (s m l : Stage Effect) → Follows texts first s m → Follows texts rest m l → Follows texts (first ++ rest) s l
 follows_both [] rest s m l h r = subst (λ x. Follows texts rest x l) h r
 follows_both (was_read name max given ∷ first) rest s m l h r = (h.0, h.1, follows_both first rest h.0 m l h.2 r)
 follows_both (was_written name bytes answer ∷ first) rest s m l h r = absurd h

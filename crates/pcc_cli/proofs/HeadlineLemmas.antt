@@ -135,7 +135,7 @@ module _ (packet_laws : ReadsPackets) (under : PolicyView) (code : List Insn) (s
   run_told packets no_memory exit held is = is
 
 -- what is run of code, behind its container
-abbrev after_code : PolicyView → List Insn → ℕ → List ℕ → Stage Effect
+abbrev pub after_code : PolicyView → List Insn → ℕ → List ℕ → Stage Effect
 after_code under code steps packets =
     reads packets MAX_FILE (refused packets_too_long_line)
     (λ b. packets_in b >>= λ all. printing
@@ -230,12 +230,12 @@ packets_there under code steps packets rest later first events asked exit is s a
 module _ (gate : GateLaws) (packet_laws : ReadsPackets) (under : PolicyView) (file packets : List ℕ) (steps : ℕ)
   where
     -- what `run` goes on with
-    abbrev run_by : List ℕ → Stage Effect
+    abbrev pub run_by : List ℕ → Stage Effect
     run_by b =
         accepted_code_in under b >>= λ code. packets_of packets >>= λ all. printing
         (result_lines under.kind (packet_result under code steps) 0 all)
 
-    run_by-accepted : (b : List ℕ) (a : IsAccepted under b) → first_refusal under b ≡ None
+    pub run_by-accepted : (b : List ℕ) (a : IsAccepted under b) → first_refusal under b ≡ None
         → run_by b
         ≡ after_code under a.code steps packets
     unfolding packets_of
@@ -333,12 +333,12 @@ value_at (reads name max more on) = None
 
 module _ (packet_laws : ReadsPackets) (under : PolicyView) (file packets : List ℕ) (steps : ℕ) where
   -- what `ref` goes on with
-  abbrev ref_by : List ℕ → Stage Effect
+  abbrev pub ref_by : List ℕ → Stage Effect
   ref_by b =
       code_in under b >>= λ code. packets_of packets >>= λ all. printing
       (result_lines under.kind (packet_result under code steps) 0 all)
 
-  ref_by-code : (b : List ℕ) (code : List Insn) → code_in under b ≡ gives code → ref_by b
+  pub ref_by-code : (b : List ℕ) (code : List Insn) → code_in under b ≡ gives code → ref_by b
       ≡ after_code under code steps packets
   unfolding packets_of
   ref_by-code b code is =

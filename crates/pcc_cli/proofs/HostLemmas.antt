@@ -46,17 +46,17 @@ use Rattle.pcc_cli.proofs.EndLemmas.{GateLaws, no_read, HasRead, first_read, End
 -- ---- a packet file
 
 -- an agent of code with a packet
-abbrev member : PolicyView → List Insn → List ℕ → Member
+abbrev pub member : PolicyView → List Insn → List ℕ → Member
 member policy code packet = record { policy = policy; code = code; packet = packet }
 
 -- the agent of what was found, or the exit
-abbrev member_stage : PolicyView → List Insn → Result (List ℕ) Exit → Stage Member
+abbrev pub member_stage : PolicyView → List Insn → Result (List ℕ) Exit → Stage Member
 member_stage policy code (Ok packet) = gives (member policy code packet)
 member_stage policy code (Err exit) = stops exit
 
 module _ (a : ℕ) (policy : PolicyView) (code : List Insn) where
   -- the first packet of what was read as packets
-  abbrev first_stage : Result (List (List ℕ)) PacketFault → Stage Member
+  abbrev pub first_stage : Result (List (List ℕ)) PacketFault → Stage Member
   first_stage r = (packets_found r >>= first_packet a policy) >>= λ packet. gives (member policy code packet)
 
   by_start : (packet : List ℕ) (o : Option StartView) → for_agent a (unless_short packet o >>= λ p. gives (member policy code p)) ≡ member_stage policy code (unless_short_of a packet o)
@@ -68,7 +68,7 @@ module _ (a : ℕ) (policy : PolicyView) (code : List Insn) where
   by_found (Ok []) = refl
   by_found (Ok (packet ∷ packets)) = by_start packet (start_from (base_of a) policy.kind packet)
 
-  by_given : (name : List ℕ) (given : Given)
+  pub by_given : (name : List ℕ) (given : Given)
       → went_on texts name (told_of a (refused packets_too_long_line)) (λ b. for_agent a (first_stage (decoded_packets b))) given
       ≡ member_stage policy code (packet_given a policy name given)
   by_given name (whole b) = by_found (decoded_packets b)
@@ -78,7 +78,7 @@ module _ (a : ℕ) (policy : PolicyView) (code : List Insn) where
   by_given name no_memory = refl
 
   -- what a load goes on with behind its container
-  packet_reads : (name : List ℕ) → for_agent a (packet_of a policy name >>= λ packet. gives (member policy code packet))
+  pub packet_reads : (name : List ℕ) → for_agent a (packet_of a policy name >>= λ packet. gives (member policy code packet))
       ≡ reads name MAX_FILE (told_of a (refused packets_too_long_line)) (λ b. for_agent a (first_stage (decoded_packets b)))
   unfolding packet_of packets_of
   packet_reads name = refl

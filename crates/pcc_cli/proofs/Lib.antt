@@ -5,3 +5,4 @@ pub mod CheckLemmas
 pub mod HostLemmas
 pub mod HeadlineLemmas
 pub mod ClauseLemmas
+pub mod MeansLemmas

@@ -1,16 +1,15 @@
 -- What a policy's bytes read as speaks of the tests of their lines.
-use Rattle.std.proofs.Common.{◌≡◌, ◌↔◌, ◌≤◌, ◌<◌, inl, inr, ℕ, Bool, true, false, cond, ltb, List, [], ◌∷◌, length, IfErr, Result, Ok, Err}
+use Rattle.std.proofs.Common.{◌≡◌, ◌↔◌, ◌≤◌, ◌<◌, inl, inr, ℕ, Bool, true, false, cond, List, [], ◌∷◌, length, IfErr, Result, Ok, Err}
 use Rattle.std.proofs.Common.{refl, sym, ◌∙◌, ap, subst, arith}
 use Rattle.std.specs.Prelude.{nat_lt}
 use Rattle.std.proofs.lemmas.Bool.{ltb-true, ltb-false}
-use Rattle.word_ops.specs.Tests.{TestFor, test, FirstFails, Answers, IsSharp, AreSharp}
+use Rattle.word_ops.specs.Tests.{FirstFails, Answers, IsSharp, AreSharp}
 use Rattle.word_ops.proofs.Tests.{test-sharp, flaw-exactly}
 use Rattle.word_ops.specs.declared.Profile.TheVariants.{Two}
 use Rattle.term_table.specs.Steps.{◌>>=◌}
-use Rattle.text_tokens.specs.Lines.{AreLines, lines_of}
+use Rattle.text_tokens.specs.Lines.{lines_of}
 use Rattle.text_tokens.proofs.Endings.{lines_are, are_lines}
 use Rattle.formula_tree.specs.Formulas.{Form}
-use Rattle.formula_text.specs.Grammar.{Spells}
 use Rattle.formula_text.specs.Parsing.{FaultAt, parsed_form}
 use Rattle.formula_text.proofs.Joined.{spelled_parsed, parsed_spelled}
 use Rattle.policy_set.specs.declared.fault.PolicyFault.{PolicyFault}
@@ -31,6 +30,7 @@ formula-sharp n line = record { excludes = apart; one = same }
     apart found (at, e, is) (F, spells) =
         let both : Err at ≡ Ok F = sym e ∙ spelled_parsed Two false line F spells in
         absurd cc
+
     same : (a b : PolicyFlaw) → (is_formula n line).fails a → (is_formula n line).fails b → a ≡ b
     same a b (x, e, is) (y, f, was) =
         let errs : Err x ≡ Err y = sym e ∙ f in
@@ -80,9 +80,10 @@ lines-speak (first ∷ second ∷ third ∷ lines) = inl (λ p. p, refl)
 
 pub flaw-is : (bytes : List ℕ) (found : PolicyFlaw) → (policy_read bytes ≡ Err found) ↔ IsPolicyFlaw bytes found
 flaw-is bytes found =
-    let exactly = flaw-exactly (policy_tests (lines_of bytes)) (tests-sharp (lines_of bytes)) (policy_read bytes) (lines-speak (lines_of bytes)) found in
-    (λ e. (lines_of bytes, are_lines bytes, exactly.0 e),
-    λ h. exactly.1 (subst (λ lines. FirstFails (policy_tests lines) found) (sym (lines_are bytes h.0 h.1)) h.2))
+    let exactly = flaw-exactly (policy_tests (lines_of bytes)) (tests-sharp (lines_of bytes)) (policy_read bytes) (lines-speak (lines_of bytes)) found in (
+      λ e. (lines_of bytes, are_lines bytes, exactly.0 e),
+      λ h. exactly.1 (subst (λ lines. FirstFails (policy_tests lines) found) (sym (lines_are bytes h.0 h.1)) h.2),
+    )
 
 pub first-if : (bytes : List ℕ) (r : Result PolicyView PolicyFault) → IsPolicyAnswer (λ policy. policy) (policy_read bytes) r
     → IfErr r (λ e. IsPolicyFault bytes e)

@@ -1,11 +1,11 @@
 -- What bytes read as a container speaks of its tests.
-use Rattle.std.proofs.Common.{◌≡◌, ◌≢◌, ◌⊎◌, ◌↔◌, inl, inr, ℕ, zero, suc, ◌+◌, ◌*◌, ◌-◌, ◌/◌, ◌<◌, ◌≤◌, Bool, true, false, cond, ltb, eqb, ◌||◌}
-use Rattle.std.proofs.Common.{List, [], ◌∷◌, ◌++◌, map, length, take, drop, slice_get, Option, Some, None, Result, Ok, Err, refl, sym, ap}
+use Rattle.std.proofs.Common.{◌≡◌, inl, inr, ℕ, zero, suc, ◌+◌, ◌*◌, ◌-◌, ◌/◌, ◌<◌, ◌≤◌, Bool, true, false, cond, ltb, eqb, ◌||◌}
+use Rattle.std.proofs.Common.{List, [], ◌∷◌, ◌++◌, map, length, take, drop, Option, Some, None, Result, Ok, Err, refl, sym, ap}
 use Rattle.std.proofs.Common.{◌∙◌, subst, arith, append_assoc}
 use Rattle.std.specs.List.{slice_range}
 use Rattle.std.specs.Prelude.{sum_by}
 use Rattle.std.specs.Option.{option_map}
-use Rattle.std.proofs.lemmas.Bool.{true≢false, cond_both, ltb-true, ltb-false, eqb-true, eqb-false, le-ltb, or_from, or_parts}
+use Rattle.std.proofs.lemmas.Bool.{true≢false, cond_both, ltb-true, ltb-false, eqb-true, le-ltb, or_from, or_parts}
 use Rattle.std.proofs.lemmas.List.{length-append, length-take, length-drop}
 use Rattle.std.proofs.lemmas.Option.{same_Some}
 use Rattle.std.proofs.lemmas.List.Sums.{sum_by-cons}
@@ -17,10 +17,9 @@ use Rattle.term_table.specs.Equality.{tree_eq}
 use Rattle.term_table.proofs.Equality.{tree_eq-true, tree_eq_refl}
 use Rattle.proof_container.specs.declared.container.Head.{Head}
 use Rattle.proof_container.specs.declared.container.Head.TheVariants.{Number, Digest}
-use Rattle.proof_container.specs.declared.fault.Flaw.{Flaw}
 use Rattle.proof_container.specs.declared.fault.Flaw.TheVariants.{Magic, Version, Count, ForwardRef, Order, InvOrder, Trailing}
 use Rattle.proof_container.specs.declared.limits.TheConstants.{MAX_VERSION, MAX_BOUND, MAX_WORDS, MAX_ENTRIES, MAX_INVS, MAX_LEMMAS}
-use Rattle.proof_container.specs.Versions.{IsVersion, policy_size, bound_size, code_field, lemmas_size}
+use Rattle.proof_container.specs.Versions.{IsVersion, policy_size, bound_size, code_field}
 use Rattle.proof_container.specs.Contents.{Contents, lemma_roots, one_or_none, roots}
 use Rattle.proof_container.specs.Postorder.{entries}
 use Rattle.proof_container.specs.Encoding.{magic}
@@ -28,7 +27,7 @@ use Rattle.proof_container.specs.Decoding.{Fault, field_at, exact_at, between_at
 use Rattle.proof_container.specs.Decoding.{part_at, entry_size}
 use Rattle.proof_container.specs.Decoding.{entries_at, decoded_entries, inv_at, invs_at, decoded_invs, lemmas_at, decoded_lemmas, decoded_proof}
 use Rattle.proof_container.specs.Decoding.{first_misplaced, unless_misplaced, decoded_end, proof_place, decoded_container}
-use Rattle.proof_container.specs.FieldTests.{FaultTests, tests_if, number_at, is_whole, are_whole, is_lawful, is_entry, entries_tests}
+use Rattle.proof_container.specs.FieldTests.{FaultTests, tests_if, number_at, are_whole, is_lawful, is_entry, entries_tests}
 use Rattle.proof_container.specs.FieldTests.{invs_tests, lemmas_tests}
 use Rattle.proof_container.specs.FieldTests.{order_tests, with_root, proof_tests, lemmas_part, invs_part, code_part, policy_part, container_tests}
 use Rattle.proof_container.proofs.FieldTests.{Speaks, passing, failing, push, at_fault, fault_at, field-then, exact-then, between-then}
@@ -97,8 +96,10 @@ order-speaks i (e ∷ es) (w ∷ ws) = go (order_tests (i + entry_size e) es ws)
     go later h true q =
         misplaced-later i e es (Some w ≡ Some e) later (first_misplaced es ws) (ap Some (sym (tree_eq-true e w q))) h
     go later h false q =
-        inl (λ p. (let same : w ≡ e = same_Some w e p in true≢false (sym (ap (tree_eq e) same ∙ tree_eq_refl e) ∙ q)),
-            ap (fault_at Order) (first-place i e es))
+        inl (
+          λ p. (let same : w ≡ e = same_Some w e p in true≢false (sym (ap (tree_eq e) same ∙ tree_eq_refl e) ∙ q)),
+          ap (fault_at Order) (first-place i e es),
+        )
 
 module _ (bytes : List ℕ) where
   -- ---- what names entries
@@ -117,11 +118,12 @@ module _ (bytes : List ℕ) where
         (at_fault ((low ≤ m) × (m < words)) (ltb m low || ltb words (m + 1)) (4 * i, InvOrder) (Ok m) (is_entry bytes (i + 1) es ++ rest)
         (λ j. (part_at bytes (i + 1) es >>= λ t. Ok (j, t)) >>= g)
         (λ e p. let below : m + 1 ≤ words = omega (arith, p.1) in
-            true≢false (sym e ∙ or_from (ltb m low) (ltb words (m + 1)) (le-ltb m low p.0) (le-ltb words (m + 1) below)))
+        true≢false (sym e ∙ or_from (ltb m low) (ltb words (m + 1)) (le-ltb m low p.0) (le-ltb words (m + 1) below)))
         (λ e. let both = or_parts (ltb m low) (ltb words (m + 1)) e in
-            let below : m + 1 ≤ words = ltb-false words (m + 1) both.1 in
-            ((ltb-false m low both.0, omega (arith, below)),
-            push (part_at bytes (i + 1) es) (λ t. Ok (m, t)) g (part-then bytes (i + 1) es rest (λ t. Ok (m, t) >>= g) (λ w. h)))))))
+        let below : m + 1 ≤ words = ltb-false words (m + 1) both.1 in (
+          (ltb-false m low both.0, omega (arith, below)),
+          push (part_at bytes (i + 1) es) (λ t. Ok (m, t)) g (part-then bytes (i + 1) es rest (λ t. Ok (m, t) >>= g) (λ w. h)),
+        )))))
 
     invs-then : (words last n i low : ℕ) (invs : List (ℕ × Tree)) (behind : ℕ → List Tree → FaultTests) (g : List (ℕ × Tree) → Result B Fault)
         → i + 2 * n ≡ last
@@ -197,7 +199,7 @@ module _ (bytes : List ℕ) where
       (cond_both (ltb (4 * last) (length bytes)) (Err (4 * last, Trailing)) (unless_misplaced i es c (first_misplaced es (entries (roots c))))
       (Speaks (test (length bytes ≤ 4 * last) (4 * last, Trailing) ∷ order_tests (i + 1) es (entries (roots c))))
       (λ e. let past : 4 * last < length bytes = ltb-true _ _ e in
-          failing (length bytes ≤ 4 * last) (4 * last, Trailing) (λ p. omega (arith, past, p)))
+      failing (length bytes ≤ 4 * last) (4 * last, Trailing) (λ p. omega (arith, past, p)))
       (λ e. passing (length bytes ≤ 4 * last) (4 * last, Trailing) (ltb-false _ _ e)
       (placed (order_tests (i + 1) es (entries (roots c))) (first_misplaced es (entries (roots c))) (order-speaks (i + 1) es (entries (roots c)))))))
     where
@@ -266,8 +268,8 @@ module _ (bytes : List ℕ) where
             let g : List (Tree × Tree) → Result Contents Fault = λ lemmas. proof_read es (i + (1 + 2 * length lemmas)) invs lemmas in
             let behind : ℕ → List Tree → FaultTests = λ k all. proof_tests bytes (f.next + 1) k es all in
             let h : (all : List (Tree × Tree)) → length all ≡ 0 + n → Speaks (behind (i + 1 + 2 * n) (rs ++ lemma_roots all)) (g all) = λ all e.
-                (let q : i + (1 + 2 * length all) ≡ i + 1 + 2 * n = omega (arith, e) in
-                subst (λ k. Speaks (behind k (rs ++ lemma_roots all)) (g all)) q (proof-speaks es (i + (1 + 2 * length all)) invs all)) in
+            (let q : i + (1 + 2 * length all) ≡ i + 1 + 2 * n = omega (arith, e) in
+            subst (λ k. Speaks (behind k (rs ++ lemma_roots all)) (g all)) q (proof-speaks es (i + (1 + 2 * length all)) invs all)) in
             push (between_at bytes i 0 MAX_LEMMAS Count) (λ count. lemmas_at count bytes (i + 1) es []) g
             (between-then bytes i 0 MAX_LEMMAS (λ m. m ≤ MAX_LEMMAS) Count (lemmas_tests bytes n (i + 1) es rs behind)
             (λ count. lemmas_at count bytes (i + 1) es [] >>= g) (λ m p. (omega arith, p)) (λ m p q. q)
@@ -299,7 +301,7 @@ module _ (bytes : List ℕ) where
 
     entries-speak : (words : ℕ) → words ≡ length f.code / 4
         → Speaks (is_lawful bytes f.next (λ n. n ≤ MAX_ENTRIES) Count
-            ++ entries_tests bytes f.version (number_at bytes f.next) (f.next + 1) [] (λ j es. invs_part bytes f.version words (f.next + 1) j es)) front_read
+        ++ entries_tests bytes f.version (number_at bytes f.next) (f.next + 1) [] (λ j es. invs_part bytes f.version words (f.next + 1) j es)) front_read
     unfolding decoded_entries
     entries-speak words is =
         let n = number_at bytes f.next in
@@ -373,7 +375,7 @@ module _ (bytes : List ℕ) where
       let i = code_field v + words in
       push (raw_at bytes (code_field v) words) (λ code. Ok (record { version = v; head = head; bound = bound; code = code; next = i })) front_read
       (raw-then bytes (code_field v) words (is_lawful bytes i (λ n. n ≤ MAX_ENTRIES) Count
-          ++ entries_tests bytes v (number_at bytes i) (i + 1) [] (λ j es. invs_part bytes v words (i + 1) j es))
+      ++ entries_tests bytes v (number_at bytes i) (i + 1) [] (λ j es. invs_part bytes v words (i + 1) j es))
       (λ code. Ok (record { version = v; head = head; bound = bound; code = code; next = i }) >>= front_read) before
       (λ w. entries-speak (record { version = v; head = head; bound = bound; code = slice_range bytes (4 * code_field v) (4 * i); next = i }) words
       (code-words (code_field v) words w)))

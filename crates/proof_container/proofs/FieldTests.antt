@@ -1,24 +1,18 @@
 -- What bytes read as speaks of the tests of their fields: contents where all pass, else the first that fails.
-use Rattle.std.proofs.Common.{◌≡◌, ◌≢◌, ◌⊎◌, ◌↔◌, inl, inr, ℕ, zero, suc, ◌+◌, ◌*◌, ◌-◌, ◌/◌, ◌<◌, ◌≤◌, Bool, true, false, cond, ltb, eqb, ◌||◌, ◌&&◌}
-use Rattle.std.proofs.Common.{List, [], ◌∷◌, ◌++◌, map, length, take, drop, slice_get, Option, Some, None, Result, Ok, Err, refl, sym, ap}
-use Rattle.std.proofs.Common.{◌∙◌, subst, arith, append_assoc}
+use Rattle.std.proofs.Common.{◌≡◌, ◌≢◌, inl, inr, ℕ, zero, suc, ◌+◌, ◌*◌, ◌/◌, ◌<◌, ◌≤◌, Bool, true, false, cond, ltb, eqb, ◌||◌}
+use Rattle.std.proofs.Common.{List, [], ◌∷◌, ◌++◌, length, Result, Ok, Err, refl, sym, ap}
+use Rattle.std.proofs.Common.{◌∙◌, subst, arith}
 use Rattle.std.specs.List.{slice_range}
-use Rattle.std.specs.Prelude.{sum_by}
-use Rattle.std.specs.Option.{option_map}
-use Rattle.std.proofs.lemmas.Bool.{true≢false, cond_both, ltb-true, ltb-false, eqb-true, eqb-false, eq-eqb, ne_eqb, le-ltb, lt-ltb, or_from}
+use Rattle.std.proofs.lemmas.Bool.{true≢false, cond_both, ltb-true, ltb-false, eqb-true, eqb-false, ne_eqb, le-ltb, or_from}
 use Rattle.std.proofs.lemmas.Bool.{or_parts, cases_eq}
-use Rattle.std.proofs.lemmas.List.{length-append, length-take, length-drop}
-use Rattle.std.proofs.lemmas.Option.{same_Some}
-use Rattle.word_ops.specs.Tests.{TestFor, test, AllPass, FirstFails, Answers, AreSharp}
-use Rattle.word_ops.proofs.Tests.{test-sharp, AreSharp-append, FirstFails-front, Answers-pass, Answers-append, flaw-exactly, value-exactly}
+use Rattle.word_ops.specs.Tests.{test, AllPass, FirstFails, Answers}
+use Rattle.word_ops.proofs.Tests.{FirstFails-front, Answers-pass, Answers-append}
 use Rattle.term_table.specs.Steps.{◌>>=◌}
 use Rattle.term_table.specs.Tree.{Tree, Var, Con, App, Lam, Num, Lit, Calc, Fact, Deny, Lemma}
 use Rattle.term_table.specs.Table.{tree_in}
-use Rattle.term_table.specs.Equality.{tree_eq}
-use Rattle.term_table.proofs.Equality.{tree_eq-true, tree_eq_refl}
 use Rattle.proof_container.specs.declared.fault.Flaw.{Flaw}
-use Rattle.proof_container.specs.declared.fault.Flaw.TheVariants.{Cut, Magic, Version, Count, EntryKind, ForwardRef, DoubleEntry, Order}
-use Rattle.proof_container.specs.declared.fault.Flaw.TheVariants.{LambdaHead, InvOrder, Trailing}
+use Rattle.proof_container.specs.declared.fault.Flaw.TheVariants.{Cut, EntryKind, ForwardRef, DoubleEntry}
+use Rattle.proof_container.specs.declared.fault.Flaw.TheVariants.{LambdaHead}
 use Rattle.proof_container.specs.Decoding.{Fault, field_at, exact_at, between_at, raw_at, word_at, is_lam, part_at, head_at, application_at}
 use Rattle.proof_container.specs.Decoding.{triple_at, kind_at, entry_at, entry_size, entries_at}
 use Rattle.proof_container.specs.Postorder.{is_emitted}
@@ -119,10 +113,10 @@ module _ (bytes : List ℕ) {B : Type 0} where
       (field-then i (test (Lawful m) (4 * i, flaw) ∷ rest) (λ n. cond (ltb n low || ltb high n) (Err (4 * i, flaw)) (Ok n) >>= g)
       (λ w. at_fault (Lawful m) (ltb m low || ltb high m) (4 * i, flaw) (Ok m) rest g
       (λ e p. let in_range = there m p in
-          true≢false (sym e ∙ or_from (ltb m low) (ltb high m) (le-ltb m low in_range.0) (le-ltb high m in_range.1)))
+      true≢false (sym e ∙ or_from (ltb m low) (ltb high m) (le-ltb m low in_range.0) (le-ltb high m in_range.1)))
       (λ e. let both = or_parts (ltb m low) (ltb high m) e in
-          let lawful = back m (ltb-false m low both.0) (ltb-false high m both.1) in
-          (lawful, h w lawful))))
+      let lawful = back m (ltb-false m low both.0) (ltb-false high m both.1) in
+      (lawful, h w lawful))))
 
   -- ---- fields as they stand
 
@@ -135,9 +129,9 @@ module _ (bytes : List ℕ) {B : Type 0} where
       cond_both (ltb (length bytes) (4 * (i + n))) (Err (4 * (length bytes / 4), Cut)) (Ok (slice_range bytes (4 * i) (4 * (i + n))))
       (λ r. Speaks (tests ++ rest) (r >>= g))
       (λ e. let short : length bytes < 4 * (i + n) = ltb-true _ _ e in
-          record { says = FirstFails-front tests rest (4 * (length bytes / 4), Cut) (first-cut bytes i n before short) })
+      record { says = FirstFails-front tests rest (4 * (length bytes / 4), Cut) (first-cut bytes i n before short) })
       (λ e. let whole : 4 * (i + n) ≤ length bytes = ltb-false _ _ e in
-          record { says = Answers-append tests rest (g (slice_range bytes (4 * i) (4 * (i + n)))) (all-whole bytes i n whole) (h whole).says })
+      record { says = Answers-append tests rest (g (slice_range bytes (4 * i) (4 * (i + n)))) (all-whole bytes i n whole) (h whole).says })
 
   -- ---- words
 
@@ -197,8 +191,8 @@ module _ (bytes : List ℕ) {B : Type 0} where
   application-then : (i : ℕ) (ts : List Tree) (rest : FaultTests) (g : Tree → Result B Fault)
       → Speaks rest (g (App (tree_in ts (number_at bytes i)) (tree_in ts (number_at bytes (i + 1)))))
       → Speaks (is_entry bytes i ts
-          ++ (test ((b : Tree) → tree_in ts (number_at bytes i) ≢ Lam b) (4 * i, LambdaHead) ∷ (is_entry bytes (i + 1) ts ++ rest)))
-          (application_at bytes i ts >>= g)
+      ++ (test ((b : Tree) → tree_in ts (number_at bytes i) ≢ Lam b) (4 * i, LambdaHead) ∷ (is_entry bytes (i + 1) ts ++ rest)))
+      (application_at bytes i ts >>= g)
   application-then i ts rest g h =
       let f = tree_in ts (number_at bytes i) in
       push (head_at bytes i ts) (λ f. part_at bytes (i + 1) ts >>= λ a. Ok (App f a)) g
@@ -263,7 +257,7 @@ module _ (bytes : List ℕ) {B : Type 0} where
         cond_both (eqb v 4) (field_at bytes (i + 1) >>= λ n. Ok (Con (Lemma n))) (Err (4 * i, EntryKind))
         (λ r. Speaks (test (IsKind v 8) (4 * i, EntryKind) ∷ (is_whole bytes (i + 1) ∷ rest)) (r >>= g))
         (λ e. passing (IsKind v 8) (4 * i, EntryKind) (inr (refl, eqb-true v 4 e))
-            (push (field_at bytes (i + 1)) (λ n. Ok (Con (Lemma n))) g (field-then (i + 1) rest (λ n. Ok (Con (Lemma n)) >>= g) (λ w. h))))
+        (push (field_at bytes (i + 1)) (λ n. Ok (Con (Lemma n))) g (field-then (i + 1) rest (λ n. Ok (Con (Lemma n)) >>= g) (λ w. h))))
         (λ e. failing (IsKind v 8) (4 * i, EntryKind) (no_kind e))
       where
         no_kind : eqb v 4 ≡ false → IsKind v 8 → ⊥
@@ -297,7 +291,7 @@ module _ (bytes : List ℕ) {B : Type 0} where
           (failing (IsKind v kind) (4 * i, EntryKind) no_kind)
 
     at-kind : (kind k : ℕ) → KindSpeaks k → (kind ≢ k → KindSpeaks kind) → KindSpeaks kind
-    at-kind kind k here other = elim (cases_eq kind k) [ | inl e ↦ subst KindSpeaks (sym e) here | inr ne ↦ other ne ]
+    at-kind kind k here other = elim (cases_eq kind k) [ inl e ↦ subst KindSpeaks (sym e) here | inr ne ↦ other ne ]
 
     kind-speaks : (kind : ℕ) → KindSpeaks kind
     kind-speaks kind =

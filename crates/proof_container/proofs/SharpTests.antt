@@ -1,28 +1,27 @@
 -- The tests of bytes as a container are sharp, so that their first flaw is the fault that reading them gives.
-use Rattle.std.proofs.Common.{◌≡◌, ◌≢◌, ◌↔◌, ℕ, zero, suc, ◌+◌, ◌*◌, ◌-◌, ◌<◌, ◌≤◌, Bool, true, false, cond, eqb, List, [], ◌∷◌, ◌++◌}
-use Rattle.std.proofs.Common.{length, drop, slice_get}
-use Rattle.std.proofs.Common.{Some, Result, Ok, Err, refl, sym, ap, ◌∙◌, subst}
-use Rattle.word_ops.specs.Tests.{test, AllPass, FirstFails, AreSharp}
-use Rattle.word_ops.proofs.Tests.{test-sharp, AreSharp-append, AllPass-none, flaw-exactly, value-exactly}
+use Rattle.std.proofs.Common.{◌≡◌, ◌↔◌, ℕ, zero, suc, ◌+◌, ◌-◌, ◌<◌, ◌≤◌, Bool, true, false, eqb, List, [], ◌∷◌, ◌++◌}
+use Rattle.std.proofs.Common.{length, drop}
+use Rattle.std.proofs.Common.{Result, Ok, Err, sym, ◌∙◌}
+use Rattle.word_ops.specs.Tests.{test, AllPass, AreSharp}
+use Rattle.word_ops.proofs.Tests.{test-sharp, AreSharp-append, flaw-exactly, value-exactly}
 use Rattle.term_table.specs.Bytes.{IsBytes}
-use Rattle.term_table.specs.Tree.{Tree, Lam}
+use Rattle.term_table.specs.Tree.{Tree}
 use Rattle.term_table.specs.Table.{tree_in}
 use Rattle.proof_container.specs.declared.fault.Flaw.{Flaw}
-use Rattle.proof_container.specs.declared.fault.Flaw.TheVariants.{Cut, Magic, Version, Count, EntryKind, ForwardRef, DoubleEntry, Order}
-use Rattle.proof_container.specs.declared.fault.Flaw.TheVariants.{LambdaHead, InvOrder, Trailing}
+use Rattle.proof_container.specs.declared.fault.Flaw.TheVariants.{Magic, Version, Count, EntryKind, ForwardRef}
+use Rattle.proof_container.specs.declared.fault.Flaw.TheVariants.{InvOrder}
 use Rattle.proof_container.specs.declared.limits.TheConstants.{MAX_BOUND, MAX_WORDS, MAX_ENTRIES, MAX_INVS, MAX_LEMMAS}
 use Rattle.proof_container.specs.Versions.{IsVersion, policy_size, bound_size, code_field}
 use Rattle.proof_container.specs.Contents.{Contents}
-use Rattle.proof_container.specs.Postorder.{is_emitted, entries}
+use Rattle.proof_container.specs.Postorder.{entries}
 use Rattle.proof_container.specs.Encoding.{EncodesContents, magic}
 use Rattle.proof_container.specs.Decoding.{Fault, entry_size, decoded_container}
-use Rattle.proof_container.specs.FieldTests.{FaultTests, tests_if, IsKind, order_tests, with_root, number_at, is_whole, are_whole}
+use Rattle.proof_container.specs.FieldTests.{FaultTests, tests_if, IsKind, order_tests, with_root, number_at, are_whole}
 use Rattle.proof_container.specs.FieldTests.{is_lawful, is_entry, tree_of_kind, tree_from}
 use Rattle.proof_container.specs.FieldTests.{operand_tests, entries_tests, invs_tests, lemmas_tests, proof_tests, lemmas_part, invs_part}
 use Rattle.proof_container.specs.FieldTests.{code_part, policy_part}
 use Rattle.proof_container.specs.FieldTests.{container_tests, IsFirstFault}
 use Rattle.proof_container.proofs.ContainerTests.{container-speaks}
-use Rattle.proof_container.proofs.FieldTests.{Speaks}
 use Rattle.proof_container.proofs.Whole.{container_takes, container_again}
 
 -- the tests are sharp
@@ -135,7 +134,7 @@ module _ (bytes : List ℕ) where
   -- bytes with a first fault encode no contents
   pub faulty-none : (at : ℕ) (flaw : Flaw) (c : Contents) → IsFirstFault bytes at flaw → EncodesContents bytes c → ⊥
   faulty-none at flaw c first encoded =
-      let both : Err (at, flaw) ≡ Ok c = sym ((fault-exactly at flaw).1 first) ∙ container_again bytes c encoded in
+      let both : ◌≡◌ {A = Result Contents Fault} (Err (at, flaw)) (Ok c) = sym ((fault-exactly at flaw).1 first) ∙ container_again bytes c encoded in
       absurd cc
 
   -- bytes encode contents exactly where all tests pass

@@ -1,4 +1,5 @@
 pub mod Counting
 pub mod Running
 pub mod Packets
+pub mod Reloaded
 pub mod StepCounts

@@ -11,10 +11,11 @@ ghost use Rattle.safe_host.specs.Counts.{MakesSteps};
 ghost use Rattle.safe_host.specs.Runs.{Loads, IsRun, goes_on_after};
 
 use crate::ended::Counted;
+use crate::reloading::reload;
 use host_steps::{Ended, Operation, Slots, operations_of, run_steps};
 use packet_store::start;
 use pcc_gate::Accepted;
-use reference_machine::{ARENA, QUADWORDS, reach, refill};
+use reference_machine::{ARENA, QUADWORDS, reach};
 use std::alloc::{AllocError, Global};
 use std::marker::Model;
 
@@ -99,7 +100,7 @@ impl Host {
         let place = ((begin.at - ARENA) / 8) as usize;
         self.index = 0;
         self.slots = Slots::new(begin.r16, begin.r17, begin.r18);
-        refill(&mut self.words, self.end, place, begin.bytes);
+        reload(&mut self.words, self.end, place, begin.bytes);
         self.end = reach(place + begin.bytes.len().div_ceil(8), &begin.writes);
         self.region = begin.region;
         self.live = true;

@@ -14,6 +14,7 @@
 
 mod ended;
 mod host;
+mod reloading;
 mod runner;
 #[cfg(test)]
 mod tests;

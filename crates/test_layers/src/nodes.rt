@@ -61,7 +61,7 @@ pub fn pair_of(table: &Table, id: Id) -> Made<Pair> {
 }
 
 /// The term that a constant makes of two terms.
-pub fn pair(table: &mut Table, made_of: Pair) -> Made<Id> {
+pub fn term_of(table: &mut Table, made_of: Pair) -> Made<Id> {
     let Pair { constant, a, b } = made_of;
     known(table, a)?;
     known(table, b)?;

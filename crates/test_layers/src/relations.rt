@@ -3,7 +3,7 @@
 //! the branch's condition behind it.
 
 use crate::answers::Made;
-use crate::nodes::{Pair, function, opened, pair, pair_of, raised, word_of};
+use crate::nodes::{Pair, function, opened, pair_of, raised, term_of, word_of};
 use crate::rules::{Rule, Step, Under};
 use lf_sequents::Sequent;
 use lf_signature::numbers::{EQ, ULE, ULT};
@@ -41,7 +41,7 @@ fn around(table: &mut Table, side: Side, relation: Id, part: Id) -> Made<Id> {
             Pair { constant, a, b }
         }
     };
-    let body = pair(table, body)?;
+    let body = term_of(table, body)?;
     function(table, body)
 }
 

@@ -204,15 +204,15 @@ fn axiom<S: Known>(
     table: &mut Table,
     sig: &S,
     hyps: &[Id],
-    step: Step,
+    step: &Step,
 ) -> Result<Option<Sequent>, AllocError>
     requires holds { S.Signature.holds sig.now table.old }
     requires hyps { AllKnown table.old hyps.now }
-    requires params { AllKnown table.old (step.a ∷ step.b ∷ step.c ∷ []) }
+    requires params { AllKnown table.old (step.now.a ∷ step.now.b ∷ step.now.c ∷ []) }
 {
     let alloc = table.allocator();
     let mut kept = Kept::new(alloc, 1_000);
-    let Step { rule, a, b, c } = step;
+    let Step { rule, a, b, c } = *step;
     match rule {
         Rule::TtI => tt_i(alloc, table, sig, &mut kept, hyps),
         Rule::EqRefl => eq_refl(alloc, table, sig, &mut kept, hyps, a),
@@ -227,17 +227,17 @@ fn bound<S: Known>(
     table: &mut Table,
     sig: &S,
     hyps: &[Id],
-    step: Step,
+    step: &Step,
     p: &Sequent,
 ) -> Result<Option<Sequent>, AllocError>
     requires holds { S.Signature.holds sig.now table.old }
     requires hyps { AllKnown table.old hyps.now }
-    requires params { AllKnown table.old (step.a ∷ step.b ∷ step.c ∷ []) }
+    requires params { AllKnown table.old (step.now.a ∷ step.now.b ∷ step.now.c ∷ []) }
     requires premise { IsSequent (S.Signature.declares sig.now table.old) table.old p.now }
 {
     let alloc = table.allocator();
     let mut kept = Kept::new(alloc, 1_000);
-    let Step { rule, a, b, .. } = step;
+    let Step { rule, a, b, .. } = *step;
     match rule {
         Rule::ImpI => imp_i(alloc, table, sig, &mut kept, hyps, a, b, p),
         Rule::AllI => all_i(alloc, table, sig, &mut kept, hyps, a, p),
@@ -251,17 +251,17 @@ fn plain<S: Known>(
     table: &mut Table,
     sig: &S,
     hyps: &[Id],
-    step: Step,
+    step: &Step,
     p: &Sequent,
 ) -> Result<Option<Sequent>, AllocError>
     requires holds { S.Signature.holds sig.now table.old }
     requires hyps { AllKnown table.old hyps.now }
-    requires params { AllKnown table.old (step.a ∷ step.b ∷ step.c ∷ []) }
+    requires params { AllKnown table.old (step.now.a ∷ step.now.b ∷ step.now.c ∷ []) }
     requires premise { IsSequent (S.Signature.declares sig.now table.old) table.old p.now }
 {
     let alloc = table.allocator();
     let mut kept = Kept::new(alloc, 1_000);
-    let Step { rule, a, b, .. } = step;
+    let Step { rule, a, b, .. } = *step;
     match rule {
         Rule::AndL => and_l(alloc, table, sig, &mut kept, hyps, a, b, p),
         Rule::AndR => and_r(alloc, table, sig, &mut kept, hyps, a, b, p),
@@ -276,18 +276,18 @@ fn joined<S: Known>(
     table: &mut Table,
     sig: &S,
     hyps: &[Id],
-    step: Step,
+    step: &Step,
     premises: (&Sequent, &Sequent),
 ) -> Result<Option<Sequent>, AllocError>
     requires holds { S.Signature.holds sig.now table.old }
     requires hyps { AllKnown table.old hyps.now }
-    requires params { AllKnown table.old (step.a ∷ step.b ∷ step.c ∷ []) }
+    requires params { AllKnown table.old (step.now.a ∷ step.now.b ∷ step.now.c ∷ []) }
     requires premises { AreSequents (S.Signature.declares sig.now table.old) table.old
         (premises.0.now ∷ premises.1.now ∷ []) }
 {
     let alloc = table.allocator();
     let mut kept = Kept::new(alloc, 1_000);
-    let Step { rule, a, b, c } = step;
+    let Step { rule, a, b, c } = *step;
     let (p, q) = premises;
     match rule {
         Rule::AndI => and_i(alloc, table, sig, &mut kept, hyps, a, b, p, q),
@@ -311,9 +311,9 @@ fn answered(answer: Result<Option<Sequent>, AllocError>) -> Made<Sequent> {
 }
 
 /// Tests that the hypotheses and the parameters are of the table.
-fn are_placed(table: &Table, hyps: &[Id], step: Step) -> Made<()>
+fn are_placed(table: &Table, hyps: &[Id], step: &Step) -> Made<()>
     ensures hyps { OnOk result (AllKnown table.now hyps.now) }
-    ensures params { OnOk result (AllKnown table.now (step.a ∷ step.b ∷ step.c ∷ [])) }
+    ensures params { OnOk result (AllKnown table.now (step.now.a ∷ step.now.b ∷ step.now.c ∷ [])) }
 {
     all_known(table, hyps)?;
     known(table, step.a)?;
@@ -327,33 +327,33 @@ impl Under<'_> {
     pub fn by(self, table: &mut Table, step: Step) -> Made<Sequent> {
         let Under { lemmas, hyps } = self;
         are_proved(table, lemmas)?;
-        are_placed(table, hyps, step)?;
+        are_placed(table, hyps, &step)?;
         let sig = &Sigma3;
         let extended = WithLemmas { sig, lemmas };
         let sig = ProvedLemmas { extended };
-        answered(axiom(table, &sig, hyps, step))
+        answered(axiom(table, &sig, hyps, &step))
     }
 
     /// What a rule that binds concludes from its premise.
     pub fn binding(self, table: &mut Table, step: Step, p: &Sequent) -> Made<Sequent> {
         let Under { lemmas, hyps } = self;
         is_sequent(table, lemmas, p)?;
-        are_placed(table, hyps, step)?;
+        are_placed(table, hyps, &step)?;
         let sig = &Sigma3;
         let extended = WithLemmas { sig, lemmas };
         let sig = ProvedLemmas { extended };
-        answered(bound(table, &sig, hyps, step, p))
+        answered(bound(table, &sig, hyps, &step, p))
     }
 
     /// What a rule that binds nothing concludes from its one premise.
     pub fn from(self, table: &mut Table, step: Step, p: &Sequent) -> Made<Sequent> {
         let Under { lemmas, hyps } = self;
         is_sequent(table, lemmas, p)?;
-        are_placed(table, hyps, step)?;
+        are_placed(table, hyps, &step)?;
         let sig = &Sigma3;
         let extended = WithLemmas { sig, lemmas };
         let sig = ProvedLemmas { extended };
-        answered(plain(table, &sig, hyps, step, p))
+        answered(plain(table, &sig, hyps, &step, p))
     }
 
     /// What a rule concludes from its two premises.
@@ -366,11 +366,11 @@ impl Under<'_> {
     ) -> Made<Sequent> {
         let Under { lemmas, hyps } = self;
         are_sequents(table, lemmas, p, q)?;
-        are_placed(table, hyps, step)?;
+        are_placed(table, hyps, &step)?;
         let sig = &Sigma3;
         let extended = WithLemmas { sig, lemmas };
         let sig = ProvedLemmas { extended };
-        answered(joined(table, &sig, hyps, step, (p, q)))
+        answered(joined(table, &sig, hyps, &step, (p, q)))
     }
 
     /// What the operator gives at two words.

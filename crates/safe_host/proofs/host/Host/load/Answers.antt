@@ -21,9 +21,9 @@ invariant_of-self c =
     let start = c.in-Some.ensures in
     let setup : StartView = start_view c.in-Some.begin in
     let regs : List ℕ = c.new-self-inside.result in
-    let words : List ℕ = (with_items c.self.inside.words c.refill.new.words).items in
-    let count : length c.refill.new.words ≡ c.self.inside.words.len = omega (arith, c.refill.auto.words, c.self.inside.words.ok.0) in
-    let placed : words ≡ placed_words ((setup.at - 65536) / 8) setup.bytes = with_items_is c.self.inside.words c.refill.new.words count ∙ c.refill.ensures in
+    let words : List ℕ = (with_items c.self.inside.words c.reload.new.words).items in
+    let count : length c.reload.new.words ≡ c.self.inside.words.len = omega (arith, c.reload.auto.words, c.self.inside.words.ok.0) in
+    let placed : words ≡ placed_words ((setup.at - 65536) / 8) setup.bytes = with_items_is c.self.inside.words c.reload.new.words count ∙ c.reload.ensures in
     let begun : HasBegun a setup (record (host_at a setup) { regs = regs; words = words }) =
     begins a law.forms law.annotates law.valid c.policy.result.now setup regs words c.new-self-inside.ensures c.policy.ensures
     start.fits start.words start.meets placed in
@@ -52,9 +52,9 @@ returns c =
     let start = c.in-Some.ensures in
     let setup : StartView = start_view c.in-Some.begin in
     let regs : List ℕ = c.new-self-inside.result in
-    let words : List ℕ = (with_items c.self.inside.words c.refill.new.words).items in
-    let count : length c.refill.new.words ≡ c.self.inside.words.len = omega (arith, c.refill.auto.words, c.self.inside.words.ok.0) in
-    let placed : words ≡ placed_words ((setup.at - 65536) / 8) setup.bytes = with_items_is c.self.inside.words c.refill.new.words count ∙ c.refill.ensures in
+    let words : List ℕ = (with_items c.self.inside.words c.reload.new.words).items in
+    let count : length c.reload.new.words ≡ c.self.inside.words.len = omega (arith, c.reload.auto.words, c.self.inside.words.ok.0) in
+    let placed : words ≡ placed_words ((setup.at - 65536) / 8) setup.bytes = with_items_is c.self.inside.words c.reload.new.words count ∙ c.reload.ensures in
     let new : HostView = record (host_at a setup) { regs = regs; words = words } in
     let begun : HasBegun a setup new =
     begins a law.forms law.annotates law.valid c.policy.result.now setup regs words c.new-self-inside.ensures c.policy.ensures
