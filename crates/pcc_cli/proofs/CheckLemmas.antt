@@ -17,7 +17,8 @@ use Rattle.pcc_stages.specs.Texts.{texts}
 use Rattle.pcc_stages.specs.Stages.Common.{refused}
 use Rattle.pcc_stages.specs.Stages.Policies.{no_policy_spelled, policy_spelled, policy_in}
 use Rattle.pcc_cli.specs.Headline.{IsFirstVerdict, IsNoPolicy, ChecksFrom, without_policy, with_policy}
-use Rattle.pcc_cli.proofs.EndLemmas.{GateLaws, Ended, change_at, checks, end_at, first_read, judged_by, judged_by-ended, judged_by-silent, read_once, stopped_there, went_on-silent}
+use Rattle.pcc_cli.proofs.EndLemmas.{GateLaws, Ended, change_at, checks, end_at, first_read, judged_by, judged_by-ended, judged_by-silent, read_once}
+use Rattle.pcc_cli.proofs.EndLemmas.{stopped_there, went_on-silent}
 
 -- what policies from files are, by the laws
 pub record ReadsPolicies : Type 0 where

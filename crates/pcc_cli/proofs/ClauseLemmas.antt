@@ -13,8 +13,10 @@ use Rattle.pcc_stages.specs.Runs.{Effect, Happens, written_exit, Comes, stopped,
 use Rattle.pcc_stages.specs.Stage.{Stage, stops, gives, reads, Follows}
 use Rattle.pcc_stages.specs.Texts.{texts}
 use Rattle.pcc_commands.specs.Tasks.{stage_of, task_of, task_of_command}
-use Rattle.pcc_cli.specs.Headline.{ToldOf, StopsAt, IsVerdict, IsFirstVerdict, Checks, ChecksFrom, without_policy, with_policy, RunsCode, not_accepted, accepted, Makes, not_made, made, ProvesExactly, IsUnproved, CompilesTo, CompilesExactly}
-use Rattle.pcc_cli.specs.Clauses.{AreOfBytes, Came, came, out_of_memory, EndsAtOnce, Under, DoesNothing, DoesCheck, DoesCheckFrom, DoesRun, Refuses, DoesProve, DoesProveExactly, DoesCompile, DoesCompileExactly}
+use Rattle.pcc_cli.specs.Headline.{ToldOf, StopsAt, IsVerdict, IsFirstVerdict, Checks, ChecksFrom, without_policy, with_policy, RunsCode}
+use Rattle.pcc_cli.specs.Headline.{not_accepted, accepted, Makes, not_made, made, ProvesExactly, IsUnproved, CompilesTo, CompilesExactly}
+use Rattle.pcc_cli.specs.Clauses.{AreOfBytes, Came, came, out_of_memory, EndsAtOnce, Under, DoesNothing, DoesCheck, DoesCheckFrom, DoesRun, Refuses}
+use Rattle.pcc_cli.specs.Clauses.{DoesProve, DoesProveExactly, DoesCompile, DoesCompileExactly}
 use Rattle.pcc_cli.specs.Means.{MayDo, KeepsClauses}
 use Rattle.pcc_cli.proofs.EndLemmas.{Ended, ended_of, ended_at_once}
 use Rattle.pcc_cli.proofs.HeadlineLemmas.{CommandLaws, does, proved_told}
@@ -133,17 +135,21 @@ judged_weaker : (under : PolicyView) (name line : List ℕ) (given : Given) (exi
     → ToldOf (IsVerdict under) name line given exit
 judged_weaker under = told_weaker (IsFirstVerdict under) (IsVerdict under) (λ b exit v. v.verdict)
 
-checks_weaker : (file : List ℕ) (under : PolicyView) (events : List Event) (exit : Exit) → Checks IsFirstVerdict under file events exit → Checks IsVerdict under file events exit
+checks_weaker : (file : List ℕ) (under : PolicyView) (events : List Event) (exit : Exit) → Checks IsFirstVerdict under file events exit
+    → Checks IsVerdict under file events exit
 checks_weaker file under events exit c = record { given = c.given; one_read = c.one_read; judged = judged_weaker under file _ c.given exit c.judged }
 
-checks_from_weaker : (name file : List ℕ) (events : List Event) (exit : Exit) → ChecksFrom IsFirstVerdict name file events exit → ChecksFrom IsVerdict name file events exit
+checks_from_weaker : (name file : List ℕ) (events : List Event) (exit : Exit) → ChecksFrom IsFirstVerdict name file events exit
+    → ChecksFrom IsVerdict name file events exit
 checks_from_weaker name file events exit (without_policy given is none) = without_policy given is none
 checks_from_weaker name file events exit (with_policy text policy given spells kept is judged) =
     with_policy text policy given spells kept is (judged_weaker policy file _ given exit judged)
 
-run_weaker : (file packets : List ℕ) (steps : ℕ) (under : PolicyView) (events : List Event) (exit : Exit) → RunsCode IsFirstVerdict under file packets steps events exit
+run_weaker : (file packets : List ℕ) (steps : ℕ) (under : PolicyView) (events : List Event) (exit : Exit)
+    → RunsCode IsFirstVerdict under file packets steps events exit
     → RunsCode IsVerdict under file packets steps events exit
-run_weaker file packets steps under events exit (not_accepted given is judged some) = not_accepted given is (judged_weaker under file _ given exit judged) some
+run_weaker file packets steps under events exit (not_accepted given is judged some) = not_accepted given is
+    (judged_weaker under file _ given exit judged) some
 run_weaker file packets steps under events exit (accepted bytes a given is by) = accepted bytes a given is by
 
 makes_weaker : (input output : List ℕ) (max : ℕ) (IsMade Other : List ℕ → List ℕ → Type 0) (IsTold Tells : Given → Exit → Type 0)
@@ -163,7 +169,8 @@ module _ (laws : CommandLaws) (words : List (List ℕ)) (e e' : List Event) (f g
 
   did_nothing : DoesNothing words e e' s t status
   did_nothing is =
-      came_by (EndsAtOnce (usage_exit texts)) (stops (usage_exit texts)) (λ events exit m n h ended. ended_at_once (usage_exit texts) events exit ended) e e' f g s t status
+      came_by (EndsAtOnce (usage_exit texts)) (stops (usage_exit texts))
+      (λ events exit m n h ended. ended_at_once (usage_exit texts) events exit ended) e e' f g s t status
       (subst (λ o. Runs texts (task_of_command o).stage e e' f g s t status) is runs)
 
   pub keeps : KeepsClauses words e e' s t status
@@ -194,13 +201,15 @@ module _ (laws : CommandLaws) (words : List (List ℕ)) (e e' : List Event) (f g
   pub did_run : DoesRun words e e' s t status IsVerdict
   did_run policy file packets steps is =
       weaker _ _
-      (under_weaker _ (λ under. RunsCode IsFirstVerdict under file packets steps) (λ under. RunsCode IsVerdict under file packets steps) (run_weaker file packets steps))
+      (under_weaker _ (λ under. RunsCode IsFirstVerdict under file packets steps) (λ under. RunsCode IsVerdict under file packets steps)
+      (run_weaker file packets steps))
       e e' s t status (did (run policy file packets steps) is)
 
   pub did_prove : DoesProve words e e' s t status
   did_prove policy input output is =
       weaker _ _
-      (under_weaker _ _ _ (λ under. makes_weaker input output _ (ProvesExactly under) _ (ToldOf (StopsAt (proved_in under)) input _) (ToldOf IsUnproved input _)
+      (under_weaker _ _ _ (λ under. makes_weaker input output _ (ProvesExactly under) _ (ToldOf (StopsAt (proved_in under)) input _)
+      (ToldOf IsUnproved input _)
       (λ b out proves. proves.accepted) (told_weaker (StopsAt (proved_in under)) IsUnproved (proved_told under) input _)))
       e e' s t status (did (prove policy input output) is)
 

@@ -1,5 +1,6 @@
 -- What each command does, by its events and its exit; and what accepted code is worth.
-use Rattle.std.proofs.Common.{◌≡◌, ℕ, suc, ◌+◌, ◌*◌, ◌%◌, ◌^◌, ◌<◌, ◌≤◌, ◌↔◌, ◌⊎◌, inl, inr, false, true≢false, List, [], ◌∷◌, ◌++◌, length, Option, Some, None, IfSome, is_some, unwrap_or, Result, Ok, Err, refl, sym, ap, ◌∙◌, subst, arith}
+use Rattle.std.proofs.Common.{◌≡◌, ℕ, suc, ◌+◌, ◌*◌, ◌%◌, ◌^◌, ◌<◌, ◌≤◌, ◌↔◌, ◌⊎◌, inl, inr, false, true≢false, List, [], ◌∷◌, ◌++◌, length, Option}
+use Rattle.std.proofs.Common.{Some, None, IfSome, is_some, unwrap_or, Result, Ok, Err, refl, sym, ap, ◌∙◌, subst, arith}
 use Rattle.file_port.specs.Events.{Given, whole, missing, too_long, failed, no_memory, Event, was_read, was_written}
 use Rattle.file_port.specs.Files.{FilesState}
 use Rattle.file_port.specs.declared.Put.{Put}
@@ -74,14 +75,18 @@ use Rattle.word_ops.specs.Rights.{Rights}
 use Rattle.alpha_turns.specs.Parts.{AreApart, LieIn, LieBetween, part_from}
 use Rattle.agent_host.specs.declared.host.TheConstants.{MAX_AGENTS}
 use Rattle.agent_host.specs.Agents.{base_of}
-use Rattle.pcc_cli.specs.Headline.{agent_part, StaysInPart, AgentsStayInParts, ToldOf, StopsAt, IsFirstVerdict, IsJudged, IsRunOn, on_packets, no_packets, IsRunBy, Checks, RunsCode, not_accepted, accepted, Refs, no_code, ran, Makes, not_made, made, Demonstrates, demonstrated, not_demonstrated, AssemblesTo, IsUnproved, ProvesExactly, UpgradesTo, IsNoUpgrade, CompilesExactly, IsNoProgram, AcceptedRunsSafely, IsShortOrReturns, BoundedReturns}
+use Rattle.pcc_cli.specs.Headline.{agent_part, StaysInPart, AgentsStayInParts, ToldOf, StopsAt, IsFirstVerdict, IsJudged, IsRunOn, on_packets}
+use Rattle.pcc_cli.specs.Headline.{no_packets, IsRunBy, Checks, RunsCode, not_accepted, accepted, Refs, no_code, ran, Makes, not_made, made}
+use Rattle.pcc_cli.specs.Headline.{Demonstrates, demonstrated, not_demonstrated, AssemblesTo, IsUnproved, ProvesExactly, UpgradesTo, IsNoUpgrade}
+use Rattle.pcc_cli.specs.Headline.{CompilesExactly, IsNoProgram, AcceptedRunsSafely, IsShortOrReturns, BoundedReturns}
 use Rattle.pcc_cli.specs.Clauses.{Under}
 use Rattle.pcc_cli.specs.Means.{MayDo}
 use Rattle.pcc_commands.proofs.RunLemmas.{code_given, accepted_code_of_bytes}
 use Rattle.pcc_cli.proofs.CheckLemmas.{ReadsPolicies, checks_from}
 use Rattle.pcc_cli.proofs.CompileLemmas.{ReadsPrograms, CompilesPrograms, compiles, told}
 use Rattle.pcc_cli.proofs.TaskLemmas.{code_in-ends, assembled_in-ends, proved_in-ends, upgraded_in-ends, compiled_in-ends, demo_ends}
-use Rattle.pcc_cli.proofs.EndLemmas.{GateLaws, Ended, change_at, checks, end_at, ended_at_once, ended_of, ended_once, first_read, given_bytes, second_bytes, no_read, read_once, shape, stopped_there, verdict, went_on-silent}
+use Rattle.pcc_cli.proofs.EndLemmas.{GateLaws, Ended, change_at, checks, end_at, ended_at_once, ended_of, ended_once, first_read, given_bytes}
+use Rattle.pcc_cli.proofs.EndLemmas.{second_bytes, no_read, read_once, shape, stopped_there, verdict, went_on-silent}
 use Rattle.pcc_cli.proofs.HostLemmas.{ReadsScripts, hosts}
 
 -- ---- what is told of what a read gave
@@ -97,7 +102,8 @@ told_of_stage Tells name line stage failed exit each stop = sym (ap exit_at stop
 told_of_stage Tells name line stage no_memory exit each stop = sym (ap exit_at stop)
 
 -- the same of the stage itself
-stops_told : {A : Type 0} (name line : List ℕ) (stage : List ℕ → Stage A) (given : Given) (exit : Exit) → went_on texts name (refused line) stage given ≡ stops exit
+stops_told : {A : Type 0} (name line : List ℕ) (stage : List ℕ → Stage A) (given : Given) (exit : Exit) → went_on texts name
+    (refused line) stage given ≡ stops exit
     → ToldOf (StopsAt stage) name line given exit
 stops_told name line stage given exit stop = told_of_stage (StopsAt stage) name line stage given exit (λ b is at. at) stop
 
@@ -122,7 +128,8 @@ pub record ReadsPackets : Type 0 where
   pub faulty : (bytes : List ℕ) (fault : PacketFault) → IsBytes bytes → (decoded_packets bytes ≡ Err fault) ↔ IsFirstFault bytes fault
 
 module _ (packet_laws : ReadsPackets) (under : PolicyView) (code : List Insn) (steps : ℕ) where
-  run_on : (b : List ℕ) → IsBytes b → (r : Result (List (List ℕ)) PacketFault) → decoded_packets b ≡ r → IsRunOn under code steps b (lines_exit under code steps r)
+  run_on : (b : List ℕ) → IsBytes b → (r : Result (List (List ℕ)) PacketFault) → decoded_packets b ≡ r → IsRunOn under code steps b
+      (lines_exit under code steps r)
   run_on b held (Ok ps) is = let w = (packet_laws.whole_file b ps held).0 is in on_packets ps w.0 w.1 refl
   run_on b held (Err fault) is = no_packets fault ((packet_laws.faulty b fault held).0 is) refl
 
@@ -183,7 +190,8 @@ module _ (under : PolicyView) (code : List Insn) (steps : ℕ) (packets : List �
       ⊎ ((text : List ℕ) × (to : List ℕ) × (bytes : List ℕ) × (answer : Put) × (later ≡ gives (record { text = text; change = Some (to, bytes) }))
       × (events ≡ asked ++ was_written to bytes answer ∷ []) × (exit ≡ written_exit texts to text answer)) → RanPackets events exit
   ran_packets asked later events exit follows ended does =
-      let once = ended_once packets MAX_FILE (refused packets_too_long_line) (λ b. lines (decoded_packets b)) (λ b. lines-ended (decoded_packets b)) (λ b. lines-silent (decoded_packets b))
+      let once = ended_once packets MAX_FILE (refused packets_too_long_line) (λ b. lines (decoded_packets b)) (λ b. lines-ended (decoded_packets b))
+      (λ b. lines-silent (decoded_packets b))
       asked later events exit follows ended does in
       record { given = once.given; is = once.is; ends = once.ends ∙ run-exit once.given }
 
@@ -391,7 +399,8 @@ module _ (packet_laws : ReadsPackets) (under : PolicyView) (file packets : List 
     ref_code b rest (inr (exit', stop)) is follows =
         ref_stopped (whole b) exit' rest is stop (ref_by-stop b exit' stop) follows
 
-    ref_given : (given : Given) (rest : List Event) → e.asked ≡ was_read file MAX_FILE given ∷ rest → Follows texts rest (went_on texts file (refused container_too_long_line) ref_by given) e.later
+    ref_given : (given : Given) (rest : List Event) → e.asked ≡ was_read file MAX_FILE given ∷ rest → Follows texts rest
+        (went_on texts file (refused container_too_long_line) ref_by given) e.later
         → Refs under file packets steps events exit
     ref_given (whole b) rest is follows =
         ref_code b rest (shape (code_in under b) (code_in-ends under b)) is follows
@@ -413,20 +422,26 @@ module _ (input output : List ℕ) (max : ℕ) (more : Exit) (made_of : List ℕ
   abbrev copy_by : List ℕ → Stage Effect
   copy_by b = made_of b >>= λ out. writing output out
 
-  module _ (events : List Event) (exit : Exit) (is_made : (b out : List ℕ) (rest : List Event) → events ≡ was_read input max (whole b) ∷ rest → made_of b ≡ gives out → IsMade b out)
-      (is_told : (given : Given) (exit' : Exit) (rest : List Event) → events ≡ was_read input max given ∷ rest → went_on texts input more made_of given ≡ stops exit' → IsTold given exit')
+  module _ (events : List Event) (exit : Exit) (is_made : (b out : List ℕ) (rest : List Event) → events ≡ was_read input max (whole b) ∷ rest
+      → made_of b ≡ gives out → IsMade b out)
+      (is_told : (given : Given) (exit' : Exit) (rest : List Event) → events ≡ was_read input max given ∷ rest
+      → went_on texts input more made_of given ≡ stops exit' → IsTold given exit')
       (e : Ended (reads input max more copy_by) events exit) where
-    copy_stopped : (given : Given) (exit' : Exit) (rest : List Event) → e.asked ≡ was_read input max given ∷ rest → went_on texts input more made_of given ≡ stops exit'
-        → went_on texts input more copy_by given ≡ stops exit' → Follows texts rest (went_on texts input more copy_by given) e.later → Makes input output max IsMade IsTold events exit
+    copy_stopped : (given : Given) (exit' : Exit) (rest : List Event) → e.asked ≡ was_read input max given ∷ rest
+        → went_on texts input more made_of given ≡ stops exit'
+        → went_on texts input more copy_by given ≡ stops exit' → Follows texts rest (went_on texts input more copy_by given) e.later
+        → Makes input output max IsMade IsTold events exit
     copy_stopped given exit' rest is why stop follows =
-        let there = stopped_there exit' rest e.later (was_read input max given) events e.asked exit is (went_on texts input more copy_by given) stop follows e.does in
+        let there = stopped_there exit' rest e.later (was_read input max given) events e.asked exit is
+        (went_on texts input more copy_by given) stop follows e.does in
         not_made given there.0 (subst (IsTold given) (sym there.1) (is_told given exit' [] there.0 why))
 
     -- the effect of what was made
     abbrev made_effect : List ℕ → Effect
     made_effect out = record { text = written_line (length out); change = Some (output, out) }
 
-    copied : (b out : List ℕ) (rest : List Event) → made_of b ≡ gives out → e.asked ≡ was_read input max (whole b) ∷ rest → Follows texts rest (copy_by b) e.later
+    copied : (b out : List ℕ) (rest : List Event) → made_of b ≡ gives out → e.asked ≡ was_read input max (whole b) ∷ rest → Follows texts rest
+        (copy_by b) e.later
         → Makes input output max IsMade IsTold events exit
     copied b out rest is asked follows = by e.does
       where
@@ -438,7 +453,8 @@ module _ (input output : List ℕ) (max : ℕ) (more : Exit) (made_of : List ℕ
 
         by : ((events ≡ e.asked) × (exit ≡ end_at e.later) × (change_at e.later ≡ None))
             ⊎ ((text : List ℕ) × (to : List ℕ) × (bytes : List ℕ) × (answer : Put) × (e.later ≡ gives (record { text = text; change = Some (to, bytes) }))
-            × (events ≡ e.asked ++ was_written to bytes answer ∷ []) × (exit ≡ written_exit texts to text answer)) → Makes input output max IsMade IsTold events exit
+            × (events ≡ e.asked ++ was_written to bytes answer ∷ []) × (exit ≡ written_exit texts to text answer))
+            → Makes input output max IsMade IsTold events exit
         by (inl d) = let none : Some (output, out) ≡ None = ap change_at (sym (last.1 ∙ at)) ∙ d.2 in absurd (true≢false (ap is_some none))
         by (inr d) =
             let same : Some (made_effect out) ≡ Some (record { text = d.0; change = Some (d.1, d.2) }) = ap value_at (sym (last.1 ∙ at) ∙ d.4) in
@@ -449,7 +465,8 @@ module _ (input output : List ℕ) (max : ℕ) (more : Exit) (made_of : List ℕ
             let bytes : d.2 ≡ out = ap (λ (x : Change). (unwrap_or x (output, out)).1) change in
             let split : events ≡ was_read input max (whole b) ∷ was_written output out d.3 ∷ [] =
             d.5 ∙ ap (λ es. es ++ was_written d.1 d.2 d.3 ∷ []) (asked ∙ ap (λ es. was_read input max (whole b) ∷ es) last.0)
-            ∙ ap (λ n. was_read input max (whole b) ∷ was_written n d.2 d.3 ∷ []) to ∙ ap (λ o. was_read input max (whole b) ∷ was_written output o d.3 ∷ []) bytes in
+            ∙ ap (λ n. was_read input max (whole b) ∷ was_written n d.2 d.3 ∷ []) to ∙ ap
+            (λ o. was_read input max (whole b) ∷ was_written output o d.3 ∷ []) bytes in
             made b out d.3 split (is_made b out (was_written output out d.3 ∷ []) split is)
             (d.6 ∙ ap (λ n. written_exit texts n d.0 d.3) to ∙ ap (λ x. written_exit texts output x d.3) text)
 
@@ -458,7 +475,8 @@ module _ (input output : List ℕ) (max : ℕ) (more : Exit) (made_of : List ℕ
     copy_made b rest (inl (out, is)) asked follows = copied b out rest is asked follows
     copy_made b rest (inr (exit', is)) asked follows = copy_stopped (whole b) exit' rest asked is (ap (λ c. c >>= λ out. writing output out) is) follows
 
-    copy_given : (given : Given) (rest : List Event) → e.asked ≡ was_read input max given ∷ rest → Follows texts rest (went_on texts input more copy_by given) e.later
+    copy_given : (given : Given) (rest : List Event) → e.asked ≡ was_read input max given ∷ rest → Follows texts rest
+        (went_on texts input more copy_by given) e.later
         → Makes input output max IsMade IsTold events exit
     copy_given (whole b) rest is follows = copy_made b rest (shape (made_of b) (ends b)) is follows
     copy_given missing rest is follows = copy_stopped missing _ rest is refl refl follows
@@ -688,7 +706,8 @@ StartsMeet =
     (policy : PolicyView) (packet : List ℕ) (setup : StartView) → IsPolicy policy
     → length packet ≤ MAX_PACKET → start_of policy packet ≡ Some setup → StartMeets setup policy.pre
 
-pub runs_safely : AcceptedSafe → StartsState → StartsMeet → ((code : List Insn) (n : ℕ) (s : State) → ChangesWritable code n s) → ((code : List Insn) (n : ℕ) (s : State) → DependsOnReadable code n s)
+pub runs_safely : AcceptedSafe → StartsState → StartsMeet → ((code : List Insn) (n : ℕ) (s : State) → ChangesWritable code n s) →
+    ((code : List Insn) (n : ℕ) (s : State) → DependsOnReadable code n s)
     → AcceptedRunsSafely
 runs_safely safe state meets changes depends under bytes kept a p setup n held short is = record {
   good =
@@ -706,9 +725,11 @@ lie_between a spans inside span has =
     let i : IsInArena (base_of a) span = inside span has in
     (omega (arith, i.from), omega (arith, i.to))
 
-pub stays_in_parts : AcceptedSafe → ((code : List Insn) (n : ℕ) (s : State) → ChangesWritable code n s) → ((code : List Insn) (n : ℕ) (s : State) → DependsOnReadable code n s)
+pub stays_in_parts : AcceptedSafe → ((code : List Insn) (n : ℕ) (s : State) → ChangesWritable code n s) →
+    ((code : List Insn) (n : ℕ) (s : State) → DependsOnReadable code n s)
     → AreApart agent_part
-    → ((base size i : ℕ) (rights : Rights) → LieBetween (base + size * i) (base + size * suc i) rights.reads → LieBetween (base + size * i) (base + size * suc i) rights.writes
+    → ((base size i : ℕ) (rights : Rights) → LieBetween (base + size * i) (base + size * suc i) rights.reads → LieBetween (base + size * i)
+    (base + size * suc i) rights.writes
     → LieIn (part_from base size i) rights)
     → AgentsStayInParts
 stays_in_parts accepted_safe changes depends apart spans = record { parts = apart; stays = stays_in }

@@ -1,6 +1,7 @@
 -- From the clauses of the commands to what a run of any command means: where memory ran out, the reads are those that the
 -- command's definition asks for.
-use Rattle.std.proofs.Common.{◌≡◌, ℕ, suc, ◌⊎◌, inl, inr, Bool, true, false, true≢false, List, [], ◌∷◌, ◌++◌, Option, Some, None, Result, Ok, Err, refl, sym, ap, ◌∙◌, subst}
+use Rattle.std.proofs.Common.{◌≡◌, ℕ, suc, ◌⊎◌, inl, inr, Bool, true, false, true≢false, List, [], ◌∷◌, ◌++◌, Option, Some, None, Result, Ok, Err}
+use Rattle.std.proofs.Common.{refl, sym, ap, ◌∙◌, subst}
 use Rattle.std.proofs.lemmas.List.{append-nil}
 use Rattle.file_port.specs.Events.{Given, whole, Event, was_read, was_written, was_put}
 use Rattle.file_port.specs.Sink.{SinkState}
@@ -18,7 +19,8 @@ use Rattle.agent_script.specs.Texts.{SpellsScript}
 use Rattle.pcc_gate.specs.Accepted.{IsAccepted}
 use Rattle.pcc_gate.specs.First.{first_refusal}
 use Rattle.pcc_words.specs.Invocations.{named, from_file, Invocation, asm, prove, check, run, ref, demo, upgrade, host, bpf, command_of}
-use Rattle.pcc_lines.specs.Fixed.{accepted_line, bpf_too_long_line, container_too_long_line, packets_too_long_line, policy_too_long_line, script_too_long_line, source_too_long_line}
+use Rattle.pcc_lines.specs.Fixed.{accepted_line, bpf_too_long_line, container_too_long_line, packets_too_long_line, policy_too_long_line}
+use Rattle.pcc_lines.specs.Fixed.{script_too_long_line, source_too_long_line}
 use Rattle.pcc_stages.specs.Exits.{Exit}
 use Rattle.pcc_stages.specs.Runs.{Effect, NoneFailed}
 use Rattle.pcc_stages.specs.Stage.{Stage, stops, gives, reads, ◌>>=◌, went_on, Follows}
@@ -47,7 +49,10 @@ use Rattle.pcc_commands.specs.Stages.Writing.{writing}
 use Rattle.pcc_commands.specs.Tasks.{stage_of}
 use Rattle.pcc_commands.specs.declared.stages.TheConstants.{MAX_PROGRAM_FILE}
 use Rattle.pcc_commands.proofs.RunLemmas.{accepted_code_of_bytes}
-use Rattle.pcc_cli.specs.Headline.{IsFirstVerdict, Checks, ChecksFrom, without_policy, with_policy, RunsCode, not_accepted, accepted, Refs, no_code, ran, Demonstrates, demonstrated, not_demonstrated, Makes, not_made, made, packet_given, member_with, LoadsMember, no_policy, no_container, has_container, LoadsMembers, all, ended, ended_later, loaded, Hosts, no_script, not_loaded, took_turns}
+use Rattle.pcc_cli.specs.Headline.{IsFirstVerdict, Checks, ChecksFrom, without_policy, with_policy, RunsCode, not_accepted, accepted, Refs, no_code}
+use Rattle.pcc_cli.specs.Headline.{ran, Demonstrates, demonstrated, not_demonstrated, Makes, not_made, made, packet_given, member_with, LoadsMember}
+use Rattle.pcc_cli.specs.Headline.{no_policy, no_container, has_container, LoadsMembers, all, ended, ended_later, loaded, Hosts, no_script}
+use Rattle.pcc_cli.specs.Headline.{not_loaded, took_turns}
 use Rattle.pcc_cli.specs.Clauses.{AreOfBytes, Came, came, out_of_memory, Under}
 use Rattle.pcc_cli.specs.Means.{MayDo, Means, came_to, ran_out, MeansIfCommand, KeepsClauses}
 use Rattle.pcc_cli.proofs.EndLemmas.{GateLaws}
@@ -76,27 +81,29 @@ nil_split (x ∷ events) rest e = absurd (true≢false (ap is_nil (sym e)))
 
 -- events before others, that begin so
 data Begins (events rest : List Event) (first : Event) (more : List Event) : Type 0 where
-  none : events ≡ [] → Begins events rest first more
-  some : (behind : List Event) → events ≡ first ∷ behind → behind ++ rest ≡ more → Begins events rest first more
+  at_none : events ≡ [] → Begins events rest first more
+  at_first : (later : List Event) → events ≡ first ∷ later → later ++ rest ≡ more → Begins events rest first more
 
 begins : (events rest : List Event) (first : Event) (more : List Event) → events ++ rest ≡ first ∷ more → Begins events rest first more
-begins [] rest first more e = none refl
-begins (x ∷ events) rest first more e = some events (ap (λ y. y ∷ events) (ap (head_of first) e)) (ap tail_of e)
+begins [] rest first more e = at_none refl
+begins (x ∷ events) rest first more e = at_first events (ap (λ y. y ∷ events) (ap (head_of first) e)) (ap tail_of e)
 
 -- two splits of the same events
 data Splits (events rest first more : List Event) : Type 0 where
-  before : (x : List Event) → first ≡ events ++ x → Splits events rest first more
-  behind : (y : List Event) → events ≡ first ++ y → y ++ rest ≡ more → Splits events rest first more
+  inside_first : (x : List Event) → first ≡ events ++ x → Splits events rest first more
+  past_first : (y : List Event) → events ≡ first ++ y → y ++ rest ≡ more → Splits events rest first more
 
 splits_on : (e : Event) (events rest first more : List Event) → Splits events rest first more → Splits (e ∷ events) rest (e ∷ first) more
-splits_on e events rest first more (before x is) = before x (ap (λ es. e ∷ es) is)
-splits_on e events rest first more (behind y is on) = behind y (ap (λ es. e ∷ es) is) on
+splits_on e events rest first more (inside_first x is) = inside_first x (ap (λ es. e ∷ es) is)
+splits_on e events rest first more (past_first y is on) =
+    past_first y (ap (λ es. e ∷ es) is) on
 
 splits : (events rest first more : List Event) → events ++ rest ≡ first ++ more → Splits events rest first more
-splits [] rest first more e = before first refl
-splits (x ∷ events) rest [] more e = behind (x ∷ events) refl e
+splits [] rest first more e = inside_first first refl
+splits (x ∷ events) rest [] more e = past_first (x ∷ events) refl e
 splits (x ∷ events) rest (y ∷ first) more e =
-    subst (λ z. Splits (x ∷ events) rest (z ∷ first) more) (ap (head_of x) e) (splits_on x events rest first more (splits events rest first more (ap tail_of e)))
+    subst (λ z. Splits (x ∷ events) rest (z ∷ first) more) (ap (head_of x) e)
+    (splits_on x events rest first more (splits events rest first more (ap tail_of e)))
 
 -- ---- what events reach
 
@@ -114,10 +121,13 @@ module _ (name : List ℕ) (max : ℕ) (more : Exit) (on : List ℕ → Stage Ef
   reach_read behind e each = by (begins events rest (was_read name max given) behind e)
     where
       by : Begins events rest (was_read name max given) behind → Reach events (reads name max more on)
-      by (none is) = reach_nothing events (reads name max more on) is
-      by (some later is split) =
-          let r = each later is split in
-          (r.0, subst (λ es. Follows texts es (reads name max more on) r.0) (sym is) (went_on texts name more on given, record { more = more; on = on; asks = refl; goes = refl }, r.1))
+      by (at_none is) = reach_nothing events (reads name max more on) is
+      by (at_first later is split) =
+          let r = each later is split in (
+            r.0,
+            subst (λ es. Follows texts es (reads name max more on) r.0) (sym is)
+                (went_on texts name more on given, record { more = more; on = on; asks = refl; goes = refl }, r.1),
+          )
 
   reach_once : events ++ rest ≡ was_read name max given ∷ [] → Reach events (reads name max more on)
   reach_once e = reach_read [] e (λ later is split. reach_nothing later _ (nil_split later rest split))
@@ -127,51 +137,65 @@ no_write : (later rest : List Event) (name bytes : List ℕ) (answer : Put) → 
 no_write later rest name bytes answer clean e = by (begins later rest (was_written name bytes answer) [] e)
   where
     by : Begins later rest (was_written name bytes answer) [] → later ≡ []
-    by (none is) = is
-    by (some behind is split) = absurd (subst NoneFailed is clean)
+    by (at_none is) = is
+    by (at_first others is split) = absurd (subst NoneFailed is clean)
 
-reach_makes : (input output : List ℕ) (max : ℕ) (more : Exit) (on : List ℕ → Stage Effect) (IsMade : List ℕ → List ℕ → Type 0) (IsTold : Given → Exit → Type 0)
-    (events rest : List Event) (exit : Exit) → NoneFailed events → Makes input output max IsMade IsTold (events ++ rest) exit → Reach events (reads input max more on)
+reach_makes : (input output : List ℕ) (max : ℕ) (more : Exit) (on : List ℕ → Stage Effect) (IsMade : List ℕ → List ℕ → Type 0)
+    (IsTold : Given → Exit → Type 0)
+    (events rest : List Event) (exit : Exit) → NoneFailed events → Makes input output max IsMade IsTold (events ++ rest) exit → Reach events
+    (reads input max more on)
 reach_makes input output max more on IsMade IsTold events rest exit clean (not_made given is why) = reach_once input max more on given events rest is
 reach_makes input output max more on IsMade IsTold events rest exit clean (made b out answer is what end) =
     reach_read input max more on (whole b) events rest (was_written output out answer ∷ []) is
     (λ later at split. reach_nothing later _ (no_write later rest output out answer (subst NoneFailed at clean) split))
 
-under_reach : (p : Option PolicyView) (May : PolicyView → List Event → Exit → Type 0) (next : PolicyView → Stage Effect) (events rest : List Event) (exit : Exit)
-    → ((under : PolicyView) → May under (events ++ rest) exit → Reach events (next under)) → Under p May (events ++ rest) exit → Reach events (policy_found p >>= next)
+under_reach : (p : Option PolicyView) (May : PolicyView → List Event → Exit → Type 0) (next : PolicyView → Stage Effect) (events rest : List Event)
+    (exit : Exit)
+    → ((under : PolicyView) → May under (events ++ rest) exit → Reach events (next under)) → Under p May (events ++ rest) exit → Reach events
+    (policy_found p >>= next)
 under_reach None May next events rest exit each may = reach_nothing events _ (nil_split events rest may.0)
 under_reach (Some under) May next events rest exit each may = each under may
 
 -- ---- check, run and ref
 
-reach_check : (Judges : PolicyView → List ℕ → Exit → Type 0) (under : PolicyView) (file : List ℕ) (more : Exit) (on : List ℕ → Stage Effect) (events rest : List Event) (exit : Exit)
+reach_check : (Judges : PolicyView → List ℕ → Exit → Type 0) (under : PolicyView) (file : List ℕ) (more : Exit) (on : List ℕ → Stage Effect)
+    (events rest : List Event) (exit : Exit)
     → Checks Judges under file (events ++ rest) exit → Reach events (reads file MAX_FILE more on)
 reach_check Judges under file more on events rest exit c = reach_once file MAX_FILE more on c.given events rest c.one_read
 
 module _ (gate : GateLaws) (policies : ReadsPolicies) (name file : List ℕ) (events rest : List Event) (exit : Exit) where
-  reach_from : ChecksFrom IsFirstVerdict name file (events ++ rest) exit → Reach events (reads name MAX_POLICY_FILE (refused policy_too_long_line) (checked_by gate policies name file))
-  reach_from (without_policy given is no) = reach_once name MAX_POLICY_FILE (refused policy_too_long_line) (checked_by gate policies name file) given events rest is
+  reach_from : ChecksFrom IsFirstVerdict name file (events ++ rest) exit → Reach events
+      (reads name MAX_POLICY_FILE (refused policy_too_long_line) (checked_by gate policies name file))
+  reach_from (without_policy given is no) = reach_once name MAX_POLICY_FILE (refused policy_too_long_line)
+      (checked_by gate policies name file) given events rest is
   reach_from (with_policy text policy given spells kept is judged) =
-      reach_read name MAX_POLICY_FILE (refused policy_too_long_line) (checked_by gate policies name file) (whole text) events rest (was_read file MAX_FILE given ∷ []) is
+      reach_read name MAX_POLICY_FILE (refused policy_too_long_line) (checked_by gate policies name file) (whole text) events rest
+      (was_read file MAX_FILE given ∷ []) is
       (λ later at split. subst (λ s. Reach later s) (sym (checked-spelled gate policies name file text policy ((policies.spelled text policy).0 spells)))
       (reach_once file MAX_FILE (refused container_too_long_line) _ given later rest split))
 
-module _ (gate : GateLaws) (packet_laws : ReadsPackets) (under : PolicyView) (file packets : List ℕ) (steps : ℕ) (events rest : List Event) (exit : Exit) where
+module _ (gate : GateLaws) (packet_laws : ReadsPackets) (under : PolicyView) (file packets : List ℕ) (steps : ℕ) (events rest : List Event)
+    (exit : Exit) where
   reach_run : AreOfBytes events → RunsCode IsFirstVerdict under file packets steps (events ++ rest) exit
       → Reach events (reads file MAX_FILE (refused container_too_long_line) (run_by gate packet_laws under file packets steps))
-  reach_run held (not_accepted given is judged more) = reach_once file MAX_FILE (refused container_too_long_line) (run_by gate packet_laws under file packets steps) given events rest is
+  reach_run held (not_accepted given is judged more) = reach_once file MAX_FILE (refused container_too_long_line)
+      (run_by gate packet_laws under file packets steps) given events rest is
   reach_run held (accepted b a given is by) =
-      reach_read file MAX_FILE (refused container_too_long_line) (run_by gate packet_laws under file packets steps) (whole b) events rest (was_read packets MAX_FILE given ∷ []) is
+      reach_read file MAX_FILE (refused container_too_long_line) (run_by gate packet_laws under file packets steps) (whole b) events rest
+      (was_read packets MAX_FILE given ∷ []) is
       (λ later at split.
       let bytes : AreOfBytes (was_read file MAX_FILE (whole b) ∷ later) = subst AreOfBytes at held in
       let first : first_refusal under b ≡ None = (gate.accepted under b bytes.0).0 a in
       subst (λ s. Reach later s) (sym (run_by-accepted gate packet_laws under file packets steps b a first))
       (reach_once packets MAX_FILE (refused packets_too_long_line) _ given later rest split))
 
-  reach_ref : Refs under file packets steps (events ++ rest) exit → Reach events (reads file MAX_FILE (refused container_too_long_line) (ref_by packet_laws under file packets steps))
-  reach_ref (no_code given is why) = reach_once file MAX_FILE (refused container_too_long_line) (ref_by packet_laws under file packets steps) given events rest is
+  reach_ref : Refs under file packets steps (events ++ rest) exit → Reach events
+      (reads file MAX_FILE (refused container_too_long_line) (ref_by packet_laws under file packets steps))
+  reach_ref (no_code given is why) = reach_once file MAX_FILE (refused container_too_long_line)
+      (ref_by packet_laws under file packets steps) given events rest is
   reach_ref (ran b code given is found by same) =
-      reach_read file MAX_FILE (refused container_too_long_line) (ref_by packet_laws under file packets steps) (whole b) events rest (was_read packets MAX_FILE given ∷ []) is
+      reach_read file MAX_FILE (refused container_too_long_line) (ref_by packet_laws under file packets steps) (whole b) events rest
+      (was_read packets MAX_FILE given ∷ []) is
       (λ later at split. subst (λ s. Reach later s) (sym (ref_by-code packet_laws under file packets steps b code found))
       (reach_once packets MAX_FILE (refused packets_too_long_line) _ given later rest split))
 
@@ -213,10 +237,12 @@ module _ (gate : GateLaws) (a : ℕ) (one : LoadView) (next : Member → Stage E
     at_member : (given : Given) → went_on texts one.packets (told_of a (refused packets_too_long_line)) packets_on given
         ≡ (member_stage policy it.code (packet_given a policy one.packets given) >>= next)
     at_member given =
-        sym (went_on-bind next one.packets (told_of a (refused packets_too_long_line)) (λ bytes. for_agent a (first_stage a policy it.code (decoded_packets bytes))) given)
+        sym (went_on-bind next one.packets (told_of a (refused packets_too_long_line))
+        (λ bytes. for_agent a (first_stage a policy it.code (decoded_packets bytes))) given)
         ∙ ap (λ s. s >>= next) (by_given a policy it.code one.packets given)
 
-    member_goes : (agent : Member) (found : Result (List ℕ) Exit) → Ok agent ≡ member_with policy it.code found → (member_stage policy it.code found >>= next) ≡ next agent
+    member_goes : (agent : Member) (found : Result (List ℕ) Exit) → Ok agent ≡ member_with policy it.code found →
+        (member_stage policy it.code found >>= next) ≡ next agent
     member_goes agent (Ok packet) is = let same : record { policy = policy; code = it.code; packet = packet } ≡ agent = cc in ap next same
     member_goes agent (Err exit) is = absurd (cc)
 
@@ -224,7 +250,8 @@ module _ (gate : GateLaws) (a : ℕ) (one : LoadView) (next : Member → Stage E
   abbrev load_stage : Stage Effect
   load_stage = for_agent a (load_of a one) >>= next
 
-  reach_load : (events rest whole_events : List Event) (found : Result Member Exit) → events ++ rest ≡ whole_events → AreOfBytes events → LoadsMember a one whole_events found
+  reach_load : (events rest whole_events : List Event) (found : Result Member Exit) → events ++ rest ≡ whole_events → AreOfBytes events
+      → LoadsMember a one whole_events found
       → Reach events load_stage
   reach_load events rest whole_events found e held (no_policy unknown is why) = reach_nothing events load_stage (nil_split events rest (e ∙ is))
   reach_load events rest whole_events found e held (no_container policy given exit is_named is judged more why) =
@@ -245,13 +272,16 @@ module _ (gate : GateLaws) (a : ℕ) (one : LoadView) (next : Member → Stage E
   went_load events agent held (has_container policy b it given is_named is why) =
       let bytes : AreOfBytes (was_read one.file MAX_FILE (whole b) ∷ was_read one.packets MAX_FILE given ∷ []) = subst AreOfBytes is held in
       let reads_packets = at_packets gate a one next policy is_named b bytes.0 it in
-      let ends : went_on texts one.packets (told_of a (refused packets_too_long_line)) (packets_on gate a one next policy is_named b bytes.0 it) given ≡ next agent =
-      at_member gate a one next policy is_named b bytes.0 it given ∙ member_goes gate a one next policy is_named b bytes.0 it agent (packet_given a policy one.packets given) why in
+      let ends : went_on texts one.packets (told_of a (refused packets_too_long_line))
+      (packets_on gate a one next policy is_named b bytes.0 it) given ≡ next agent =
+      at_member gate a one next policy is_named b bytes.0 it given ∙ member_goes gate a one next policy is_named b bytes.0 it agent
+      (packet_given a policy one.packets given) why in
       let behind : Follows texts (was_read one.packets MAX_FILE given ∷ []) (judged_on gate a one next policy is_named b) (next agent) =
       subst (λ s. Follows texts (was_read one.packets MAX_FILE given ∷ []) s (next agent)) (sym reads_packets)
       (next agent, record { more = _; on = _; asks = refl; goes = sym ends }, refl) in
       subst (λ es. Follows texts es load_stage (next agent)) (sym is)
-      (subst (λ s. Follows texts (was_read one.file MAX_FILE (whole b) ∷ was_read one.packets MAX_FILE given ∷ []) s (next agent)) (sym (at_file gate a one next policy is_named))
+      (subst (λ s. Follows texts (was_read one.file MAX_FILE (whole b) ∷ was_read one.packets MAX_FILE given ∷ []) s (next agent))
+      (sym (at_file gate a one next policy is_named))
       (judged_on gate a one next policy is_named b, record { more = _; on = _; asks = refl; goes = refl }, behind))
 
 -- what was read by some of the events
@@ -275,26 +305,30 @@ module _ (gate : GateLaws) where
   first_load : (a : ℕ) (one : LoadView) (loads : List LoadView) (next : List Member → Stage Effect) (events : List Event)
       → Reach events (for_agent a (load_of a one) >>= others_on a loads next) → Reach events (agents_from a (one ∷ loads) >>= next)
   first_load a one loads next events =
-      subst (λ s. Reach events s) (sym (bind-assoc (for_agent a (load_of a one)) (λ agent. agents_from (suc a) loads >>= λ agents. gives (agent ∷ agents)) next))
+      subst (λ s. Reach events s) (sym (bind-assoc (for_agent a (load_of a one))
+      (λ agent. agents_from (suc a) loads >>= λ agents. gives (agent ∷ agents)) next))
 
   -- behind a load that gave its agent
   then_others : (a : ℕ) (one : LoadView) (loads : List LoadView) (next : List Member → Stage Effect) (agent : Member) (events rest first more : List Event)
       → AreOfBytes events → LoadsMember a one first (Ok agent)
       → ((y : List Event) → AreOfBytes y → y ++ rest ≡ more → Reach y (agents_from (suc a) loads >>= λ agents. next (agent ∷ agents)))
       → Splits events rest first more → Reach events (agents_from a (one ∷ loads) >>= next)
-  then_others a one loads next agent events rest first more held one_is others (before x is) =
+  then_others a one loads next agent events rest first more held one_is others (inside_first x is) =
       first_load a one loads next events (reach_load gate a one (others_on a loads next) events x first (Ok agent) (sym is) held one_is)
-  then_others a one loads next agent events rest first more held one_is others (behind y is on) =
+  then_others a one loads next agent events rest first more held one_is others (past_first y is on) =
       let bytes : AreOfBytes (first ++ y) = subst AreOfBytes is held in
       let r = others y (bytes_behind first y bytes) on in
       let there : Follows texts y (others_on a loads next agent) r.0 =
       subst (λ s. Follows texts y s r.0) (sym (bind-assoc (agents_from (suc a) loads) (λ agents. gives (agent ∷ agents)) next)) r.1 in
-      first_load a one loads next events
-      (r.0, subst (λ es. Follows texts es (for_agent a (load_of a one) >>= others_on a loads next) r.0) (sym is)
-      (follows_both first y (for_agent a (load_of a one) >>= others_on a loads next) (others_on a loads next agent) r.0
-      (went_load gate a one (others_on a loads next) first agent (bytes_before first y bytes) one_is) there))
+      first_load a one loads next events (
+        r.0,
+        subst (λ es. Follows texts es (for_agent a (load_of a one) >>= others_on a loads next) r.0) (sym is)
+            (follows_both first y (for_agent a (load_of a one) >>= others_on a loads next) (others_on a loads next agent) r.0
+            (went_load gate a one (others_on a loads next) first agent (bytes_before first y bytes) one_is) there),
+      )
 
-  reach_loads : (a : ℕ) (loads : List LoadView) (next : List Member → Stage Effect) (events rest whole_events : List Event) (found : Result (List Member) Exit)
+  reach_loads : (a : ℕ) (loads : List LoadView) (next : List Member → Stage Effect) (events rest whole_events : List Event)
+      (found : Result (List Member) Exit)
       → events ++ rest ≡ whole_events → AreOfBytes events → LoadsMembers a loads whole_events found → Reach events (agents_from a loads >>= next)
   reach_loads a [] next events rest whole_events found e held all = reach_nothing events _ (nil_split events rest e)
   reach_loads a (one ∷ loads) next events rest whole_events found e held (ended one_is) =
@@ -371,9 +405,11 @@ module _ (gate : GateLaws) (policies : ReadsPolicies) (packet_laws : ReadsPacket
       ran_out events r.0 logged r.1 clean same is
 
   -- where the words are no command, nothing was asked
-  nothing_asked : (May : List Event → Exit → Type 0) → ((events : List Event) (exit : Exit) → May events exit → events ≡ []) → (e e' : List Event) (s t : SinkState) (status : ℕ)
+  nothing_asked : (May : List Event → Exit → Type 0) → ((events : List Event) (exit : Exit) → May events exit → events ≡ []) → (e e' : List Event)
+      (s t : SinkState) (status : ℕ)
       → Came May e e' s t status → e' ≡ e
-  nothing_asked May none_asked e e' s t status (came events exit logged held may prints) = logged ∙ ap (λ es. e ++ es) (none_asked events exit may) ∙ append-nil e
+  nothing_asked May none_asked e e' s t status (came events exit logged held may prints) = logged ∙ ap (λ es. e ++ es)
+      (none_asked events exit may) ∙ append-nil e
   nothing_asked May none_asked e e' s t status (out_of_memory events rest exit logged held may clean same is) =
       logged ∙ ap (λ es. e ++ es) (nil_split events rest (none_asked (events ++ rest) exit may)) ∙ append-nil e
 
