@@ -12,6 +12,7 @@ use Rattle.pcc_stages.specs.Requests.{no_memory_exit, usage_exit}
 use Rattle.pcc_stages.specs.Runs.{Effect, Happens, written_exit, Comes, stopped, printed, wrote, EndsRun, decided, out_of_memory as ran_out, Runs}
 use Rattle.pcc_stages.specs.Stage.{Stage, stops, gives, reads, Follows}
 use Rattle.pcc_stages.specs.Texts.{texts}
+use Rattle.pcc_stages.proofs.StageLemmas.{follows-join, happens-join}
 use Rattle.pcc_commands.specs.Tasks.{stage_of, task_of, task_of_command}
 use Rattle.pcc_cli.specs.Headline.{ToldOf, StopsAt, IsVerdict, IsFirstVerdict, Checks, ChecksFrom, without_policy, with_policy, RunsCode}
 use Rattle.pcc_cli.specs.Headline.{not_accepted, accepted, Makes, not_made, made, ProvesExactly, IsUnproved, CompilesTo, CompilesExactly}
@@ -29,18 +30,6 @@ of_bytes [] f g h = tt
 of_bytes (was_read name max given ∷ events) f g h = (h.2, of_bytes events h.0 g h.3)
 of_bytes (was_written name bytes answer ∷ events) f g h = of_bytes events h.0 g h.2
 of_bytes (was_put piece answer ∷ events) f g h = absurd h
-
-happens_both : (first rest : List Event) (f g n : FilesState) → Happens first f g → Happens rest g n → Happens (first ++ rest) f n
-happens_both [] rest f g n h r = subst (λ x. Happens rest x n) h r
-happens_both (was_read name max given ∷ first) rest f g n h r = (h.0, h.1, h.2, happens_both first rest h.0 g n h.3 r)
-happens_both (was_written name bytes answer ∷ first) rest f g n h r = (h.0, h.1, happens_both first rest h.0 g n h.2 r)
-happens_both (was_put piece answer ∷ first) rest f g n h r = absurd h
-
-pub follows_both : (first rest : List Event) (s m l : Stage Effect) → Follows texts first s m → Follows texts rest m l → Follows texts (first ++ rest) s l
-follows_both [] rest s m l h r = subst (λ x. Follows texts rest x l) h r
-follows_both (was_read name max given ∷ first) rest s m l h r = (h.0, h.1, follows_both first rest h.0 m l h.2 r)
-follows_both (was_written name bytes answer ∷ first) rest s m l h r = absurd h
-follows_both (was_put piece answer ∷ first) rest s m l h r = absurd h
 
 -- ---- the way on from a stage
 
@@ -74,7 +63,7 @@ module _ (stage : Stage Effect) (events : List Event) (f g : FilesState) (happen
     rest = was_written name bytes put.Done ∷ [];
     exit = written_exit texts name text put.Done;
     end = with_file name bytes g;
-    happens = happens_both events (was_written name bytes put.Done ∷ []) f g (with_file name bytes g) happened (with_file name bytes g, refl, refl);
+    happens = happens-join events (was_written name bytes put.Done ∷ []) f g (with_file name bytes g) happened (with_file name bytes g, refl, refl);
     comes = wrote events text name bytes put.Done refl follows refl;
   }
 
@@ -87,11 +76,11 @@ module _ (stage : Stage Effect) (events : List Event) (f g : FilesState) (happen
     exit = no_memory_exit;
     end = g;
     happens =
-        happens_both events (was_read name max no_memory ∷ []) f g g happened
+        happens-join events (was_read name max no_memory ∷ []) f g g happened
         (g, record { same = refl; within = tt; right = all_told g.contents _ (λ files. tt) }, tt, refl);
     comes =
         stopped
-        (follows_both events (was_read name max no_memory ∷ []) stage (reads name max more on) (stops no_memory_exit) follows
+        (follows-join events (was_read name max no_memory ∷ []) stage (reads name max more on) (stops no_memory_exit) follows
         (stops no_memory_exit, record { more = more; on = on; asks = refl; goes = refl }, refl));
   }
 

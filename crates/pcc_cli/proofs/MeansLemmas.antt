@@ -29,7 +29,7 @@ use Rattle.pcc_stages.specs.Stages.Containers.{code_of}
 use Rattle.pcc_stages.specs.Stages.Policies.{policy_from}
 use Rattle.pcc_stages.specs.declared.files.TheConstants.{MAX_FILE, MAX_POLICY_FILE}
 use Rattle.pcc_stages.specs.Texts.{texts}
-use Rattle.pcc_stages.proofs.StageLemmas.{bind-assoc, went_on-bind}
+use Rattle.pcc_stages.proofs.StageLemmas.{bind-assoc, follows-join, went_on-bind}
 use Rattle.pcc_commands.specs.Commands.Assemble.{asm_command}
 use Rattle.pcc_commands.specs.Commands.Bpf.{bpf_command}
 use Rattle.pcc_commands.specs.Commands.Check.{check_command}
@@ -59,7 +59,6 @@ use Rattle.pcc_cli.proofs.EndLemmas.{GateLaws}
 use Rattle.pcc_cli.proofs.CheckLemmas.{ReadsPolicies, checked_by, checked-spelled}
 use Rattle.pcc_cli.proofs.HostLemmas.{ReadsScripts, member_stage, first_stage, by_given, packet_reads}
 use Rattle.pcc_cli.proofs.HeadlineLemmas.{ReadsPackets, run_by, run_by-accepted, ref_by, ref_by-code}
-use Rattle.pcc_cli.proofs.ClauseLemmas.{follows_both}
 
 -- ---- events before others
 
@@ -323,7 +322,7 @@ module _ (gate : GateLaws) where
       first_load a one loads next events (
         r.0,
         subst (λ es. Follows texts es (for_agent a (load_of a one) >>= others_on a loads next) r.0) (sym is)
-            (follows_both first y (for_agent a (load_of a one) >>= others_on a loads next) (others_on a loads next agent) r.0
+            (follows-join first y (for_agent a (load_of a one) >>= others_on a loads next) (others_on a loads next agent) r.0
             (went_load gate a one (others_on a loads next) first agent (bytes_before first y bytes) one_is) there),
       )
 
