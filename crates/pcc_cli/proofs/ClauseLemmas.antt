@@ -6,15 +6,20 @@ use Rattle.file_port.specs.Files.{FileMap, FilesState, with_file}
 use Rattle.file_port.specs.Sink.{SinkState}
 use Rattle.file_port.specs.declared.port.Put.TheVariants as put
 use Rattle.policy_set.specs.Views.{PolicyView}
+use Rattle.policy_set.specs.Names.{policy_of}
+use Rattle.pcc_gate.specs.Accepted.{IsAccepted}
+use Rattle.pcc_lines.specs.Fixed.{bpf_too_long_line, container_too_long_line}
+use Rattle.pcc_stages.specs.declared.files.TheConstants.{MAX_FILE}
+use Rattle.pcc_commands.specs.declared.stages.TheConstants.{MAX_PROGRAM_FILE}
 use Rattle.pcc_words.specs.Invocations.{named, from_file, Invocation, asm, prove, check, run, ref, demo, upgrade, host, bpf, command_of}
 use Rattle.pcc_stages.specs.Exits.{Exit, Change}
 use Rattle.pcc_stages.specs.Requests.{no_memory_exit, usage_exit}
-use Rattle.pcc_stages.specs.Runs.{Effect, Happens, written_exit, Comes, stopped, printed, wrote, EndsRun, decided, out_of_memory as ran_out, Runs}
+use Rattle.pcc_stages.specs.Runs.{Effect, Happens, done_exit, written_exit, Comes, stopped, printed, wrote, EndsRun, decided, out_of_memory as ran_out, Runs}
 use Rattle.pcc_stages.specs.Stage.{Stage, stops, gives, reads, Follows}
 use Rattle.pcc_stages.specs.Texts.{texts}
 use Rattle.pcc_stages.proofs.StageLemmas.{follows-join, happens-join}
 use Rattle.pcc_commands.specs.Tasks.{stage_of, task_of, task_of_command}
-use Rattle.pcc_cli.specs.Headline.{ToldOf, StopsAt, IsVerdict, IsFirstVerdict, Checks, ChecksFrom, without_policy, with_policy, RunsCode}
+use Rattle.pcc_cli.specs.Headline.{IsNoProgram, ToldOf, StopsAt, IsVerdict, IsFirstVerdict, Checks, ChecksFrom, without_policy, with_policy, RunsCode}
 use Rattle.pcc_cli.specs.Headline.{not_accepted, accepted, Makes, not_made, made, ProvesExactly, IsUnproved, CompilesTo, CompilesExactly}
 use Rattle.pcc_cli.specs.Clauses.{AreOfBytes, Came, came, out_of_memory, EndsAtOnce, Under, DoesNothing, DoesCheck, DoesCheckFrom, DoesRun, Refuses}
 use Rattle.pcc_cli.specs.Clauses.{DoesProve, DoesProveExactly, DoesCompile, DoesCompileExactly}
@@ -58,7 +63,7 @@ module _ (stage : Stage Effect) (events : List Event) (f g : FilesState) (happen
   }
 
   gives_on : (text : List ℕ) (change : Change) → Follows texts events stage (gives (record { text = text; change = change })) → GoesOn stage events f
-  gives_on text None follows = no_more (record { status = 0; text = text }) (printed text follows refl)
+  gives_on text None follows = no_more (done_exit text) (printed text follows refl)
   gives_on text (Some (name, bytes)) follows = record {
     rest = was_written name bytes put.Done ∷ [];
     exit = written_exit texts name text put.Done;
@@ -132,13 +137,13 @@ checks_from_weaker : (name file : List ℕ) (events : List Event) (exit : Exit) 
     → ChecksFrom IsVerdict name file events exit
 checks_from_weaker name file events exit (without_policy given is none) = without_policy given is none
 checks_from_weaker name file events exit (with_policy text policy given spells kept is judged) =
-    with_policy text policy given spells kept is (judged_weaker policy file _ given exit judged)
+    with_policy text policy given spells kept is (judged_weaker policy file container_too_long_line given exit judged)
 
 run_weaker : (file packets : List ℕ) (steps : ℕ) (under : PolicyView) (events : List Event) (exit : Exit)
     → RunsCode IsFirstVerdict under file packets steps events exit
     → RunsCode IsVerdict under file packets steps events exit
 run_weaker file packets steps under events exit (not_accepted given is judged some) = not_accepted given is
-    (judged_weaker under file _ given exit judged) some
+    (judged_weaker under file container_too_long_line given exit judged) some
 run_weaker file packets steps under events exit (accepted bytes a given is by) = accepted bytes a given is by
 
 makes_weaker : (input output : List ℕ) (max : ℕ) (IsMade Other : List ℕ → List ℕ → Type 0) (IsTold Tells : Given → Exit → Type 0)
@@ -181,28 +186,42 @@ module _ (laws : CommandLaws) (words : List (List ℕ)) (e e' : List Event) (f g
 
   pub did_check : DoesCheck words e e' s t status IsVerdict
   did_check policy file is =
-      weaker _ _ (under_weaker _ (λ under. Checks IsFirstVerdict under file) (λ under. Checks IsVerdict under file) (checks_weaker file)) e e' s t status
-      (did (check (named policy) file) is)
+      weaker (Under (policy_of policy) (λ under. Checks IsFirstVerdict under file)) (Under (policy_of policy) (λ under. Checks IsVerdict under file))
+      (under_weaker (policy_of policy) (λ under. Checks IsFirstVerdict under file) (λ under. Checks IsVerdict under file) (checks_weaker file))
+      e e' s t status (did (check (named policy) file) is)
 
   pub did_check_from : DoesCheckFrom words e e' s t status IsVerdict
-  did_check_from name file is = weaker _ _ (checks_from_weaker name file) e e' s t status (did (check (from_file name) file) is)
+  did_check_from name file is =
+      weaker (ChecksFrom IsFirstVerdict name file) (ChecksFrom IsVerdict name file) (checks_from_weaker name file) e e' s t status
+      (did (check (from_file name) file) is)
 
   pub did_run : DoesRun words e e' s t status IsVerdict
   did_run policy file packets steps is =
-      weaker _ _
-      (under_weaker _ (λ under. RunsCode IsFirstVerdict under file packets steps) (λ under. RunsCode IsVerdict under file packets steps)
-      (run_weaker file packets steps))
+      weaker (Under (policy_of policy) (λ under. RunsCode IsFirstVerdict under file packets steps))
+      (Under (policy_of policy) (λ under. RunsCode IsVerdict under file packets steps))
+      (under_weaker (policy_of policy) (λ under. RunsCode IsFirstVerdict under file packets steps)
+      (λ under. RunsCode IsVerdict under file packets steps) (run_weaker file packets steps))
       e e' s t status (did (run policy file packets steps) is)
+
+  -- what `prove` may do, by what is made and what is told
+  abbrev proving : (PolicyView → List ℕ → List ℕ → Type 0) → (PolicyView → List ℕ → Exit → Type 0) → List ℕ → List ℕ → PolicyView → List Event → Exit → Type 0
+  proving IsMade IsTold input output under = Makes input output MAX_FILE (IsMade under) (ToldOf (IsTold under) input container_too_long_line)
 
   pub did_prove : DoesProve words e e' s t status
   did_prove policy input output is =
-      weaker _ _
-      (under_weaker _ _ _ (λ under. makes_weaker input output _ (ProvesExactly under) _ (ToldOf (StopsAt (proved_in under)) input _)
-      (ToldOf IsUnproved input _)
-      (λ b out proves. proves.accepted) (told_weaker (StopsAt (proved_in under)) IsUnproved (proved_told under) input _)))
+      let exactly : PolicyView → List Event → Exit → Type 0 = proving ProvesExactly (λ under. StopsAt (proved_in under)) input output in
+      let roughly : PolicyView → List Event → Exit → Type 0 = proving (λ under b out. IsAccepted under out) (λ under. IsUnproved) input output in
+      weaker (Under (policy_of policy) exactly) (Under (policy_of policy) roughly)
+      (under_weaker (policy_of policy) exactly roughly
+      (λ under. makes_weaker input output MAX_FILE (ProvesExactly under) (λ b out. IsAccepted under out)
+      (ToldOf (StopsAt (proved_in under)) input container_too_long_line) (ToldOf IsUnproved input container_too_long_line)
+      (λ b out proves. proves.accepted)
+      (told_weaker (StopsAt (proved_in under)) IsUnproved (proved_told under) input container_too_long_line)))
       e e' s t status (did (prove policy input output) is)
 
   pub did_compile : DoesCompile words e e' s t status
   did_compile input output is =
-      weaker _ _ (makes_weaker input output _ CompilesExactly CompilesTo _ _ (λ b out c. c.compiles) (λ given exit told. told)) e e' s t status
-      (did (bpf input output) is)
+      let told : Given → Exit → Type 0 = ToldOf IsNoProgram input bpf_too_long_line in
+      weaker (Makes input output MAX_PROGRAM_FILE CompilesExactly told) (Makes input output MAX_PROGRAM_FILE CompilesTo told)
+      (makes_weaker input output MAX_PROGRAM_FILE CompilesExactly CompilesTo told told (λ b out c. c.compiles) (λ given exit is_told. is_told))
+      e e' s t status (did (bpf input output) is)

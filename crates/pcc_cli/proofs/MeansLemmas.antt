@@ -25,7 +25,10 @@ use Rattle.pcc_stages.specs.Exits.{Exit}
 use Rattle.pcc_stages.specs.Runs.{Effect, NoneFailed}
 use Rattle.pcc_stages.specs.Stage.{Stage, stops, gives, reads, ◌>>=◌, went_on, Follows}
 use Rattle.pcc_stages.specs.Stages.Common.{refused, policy_found, printing}
+use Rattle.packet_store.specs.Results.{packet_result}
+use Rattle.pcc_lines.specs.Results.{result_lines}
 use Rattle.pcc_stages.specs.Stages.Containers.{code_of}
+use Rattle.pcc_stages.specs.Stages.Packets.{packets_in}
 use Rattle.pcc_stages.specs.Stages.Policies.{policy_from}
 use Rattle.pcc_stages.specs.declared.files.TheConstants.{MAX_FILE, MAX_POLICY_FILE}
 use Rattle.pcc_stages.specs.Texts.{texts}
@@ -49,13 +52,15 @@ use Rattle.pcc_commands.specs.Stages.Writing.{writing}
 use Rattle.pcc_commands.specs.Tasks.{stage_of}
 use Rattle.pcc_commands.specs.declared.stages.TheConstants.{MAX_PROGRAM_FILE}
 use Rattle.pcc_commands.proofs.RunLemmas.{accepted_code_of_bytes}
+use Rattle.pcc_cli.specs.Headline.{ToldOf, StopsAt, AssemblesTo, ProvesExactly, UpgradesTo, IsNoUpgrade, CompilesExactly, IsNoProgram}
 use Rattle.pcc_cli.specs.Headline.{IsFirstVerdict, Checks, ChecksFrom, without_policy, with_policy, RunsCode, not_accepted, accepted, Refs, no_code}
 use Rattle.pcc_cli.specs.Headline.{ran, Demonstrates, demonstrated, not_demonstrated, Makes, not_made, made, packet_given, member_with, LoadsMember}
 use Rattle.pcc_cli.specs.Headline.{no_policy, no_container, has_container, LoadsMembers, all, ended, ended_later, loaded, Hosts, no_script}
 use Rattle.pcc_cli.specs.Headline.{not_loaded, took_turns}
-use Rattle.pcc_cli.specs.Clauses.{AreOfBytes, Came, came, out_of_memory, Under}
+use Rattle.pcc_cli.specs.Clauses.{AreOfBytes, Came, came, out_of_memory, EndsAtOnce, Under}
+use Rattle.pcc_stages.specs.Requests.{usage_exit}
 use Rattle.pcc_cli.specs.Means.{MayDo, Means, came_to, ran_out, MeansIfCommand, KeepsClauses}
-use Rattle.pcc_cli.proofs.EndLemmas.{GateLaws}
+use Rattle.pcc_cli.proofs.EndLemmas.{GateLaws, judged_by}
 use Rattle.pcc_cli.proofs.CheckLemmas.{ReadsPolicies, checked_by, checked-spelled}
 use Rattle.pcc_cli.proofs.HostLemmas.{ReadsScripts, member_stage, first_stage, by_given, packet_reads}
 use Rattle.pcc_cli.proofs.HeadlineLemmas.{ReadsPackets, run_by, run_by-accepted, ref_by, ref_by-code}
@@ -129,7 +134,7 @@ module _ (name : List ℕ) (max : ℕ) (more : Exit) (on : List ℕ → Stage Ef
           )
 
   reach_once : events ++ rest ≡ was_read name max given ∷ [] → Reach events (reads name max more on)
-  reach_once e = reach_read [] e (λ later is split. reach_nothing later _ (nil_split later rest split))
+  reach_once e = reach_read [] e (λ later is split. reach_nothing later (went_on texts name more on given) (nil_split later rest split))
 
 -- nothing was written where none failed
 no_write : (later rest : List Event) (name bytes : List ℕ) (answer : Put) → NoneFailed later → later ++ rest ≡ was_written name bytes answer ∷ [] → later ≡ []
@@ -146,13 +151,14 @@ reach_makes : (input output : List ℕ) (max : ℕ) (more : Exit) (on : List ℕ
 reach_makes input output max more on IsMade IsTold events rest exit clean (not_made given is why) = reach_once input max more on given events rest is
 reach_makes input output max more on IsMade IsTold events rest exit clean (made b out answer is what end) =
     reach_read input max more on (whole b) events rest (was_written output out answer ∷ []) is
-    (λ later at split. reach_nothing later _ (no_write later rest output out answer (subst NoneFailed at clean) split))
+    (λ later at split. reach_nothing later (on b) (no_write later rest output out answer (subst NoneFailed at clean) split))
 
 under_reach : (p : Option PolicyView) (May : PolicyView → List Event → Exit → Type 0) (next : PolicyView → Stage Effect) (events rest : List Event)
     (exit : Exit)
     → ((under : PolicyView) → May under (events ++ rest) exit → Reach events (next under)) → Under p May (events ++ rest) exit → Reach events
     (policy_found p >>= next)
-under_reach None May next events rest exit each may = reach_nothing events _ (nil_split events rest may.0)
+under_reach None May next events rest exit each may =
+    reach_nothing events (policy_found None >>= next) (nil_split events rest may.0)
 under_reach (Some under) May next events rest exit each may = each under may
 
 -- ---- check, run and ref
@@ -171,7 +177,12 @@ module _ (gate : GateLaws) (policies : ReadsPolicies) (name file : List ℕ) (ev
       reach_read name MAX_POLICY_FILE (refused policy_too_long_line) (checked_by gate policies name file) (whole text) events rest
       (was_read file MAX_FILE given ∷ []) is
       (λ later at split. subst (λ s. Reach later s) (sym (checked-spelled gate policies name file text policy ((policies.spelled text policy).0 spells)))
-      (reach_once file MAX_FILE (refused container_too_long_line) _ given later rest split))
+      (reach_once file MAX_FILE (refused container_too_long_line) (λ b. judged_by gate policy (first_refusal policy b)) given later rest split))
+
+-- what is printed of the packets of bytes
+abbrev lines_behind : PolicyView → List Insn → ℕ → List ℕ → Stage Effect
+lines_behind under code steps b =
+    packets_in b >>= λ packets. printing (result_lines under.kind (packet_result under code steps) 0 packets)
 
 module _ (gate : GateLaws) (packet_laws : ReadsPackets) (under : PolicyView) (file packets : List ℕ) (steps : ℕ) (events rest : List Event)
     (exit : Exit) where
@@ -186,7 +197,7 @@ module _ (gate : GateLaws) (packet_laws : ReadsPackets) (under : PolicyView) (fi
       let bytes : AreOfBytes (was_read file MAX_FILE (whole b) ∷ later) = subst AreOfBytes at held in
       let first : first_refusal under b ≡ None = (gate.accepted under b bytes.0).0 a in
       subst (λ s. Reach later s) (sym (run_by-accepted gate packet_laws under file packets steps b a first))
-      (reach_once packets MAX_FILE (refused packets_too_long_line) _ given later rest split))
+      (reach_once packets MAX_FILE (refused packets_too_long_line) (lines_behind under a.code steps) given later rest split))
 
   reach_ref : Refs under file packets steps (events ++ rest) exit → Reach events
       (reads file MAX_FILE (refused container_too_long_line) (ref_by packet_laws under file packets steps))
@@ -196,7 +207,7 @@ module _ (gate : GateLaws) (packet_laws : ReadsPackets) (under : PolicyView) (fi
       reach_read file MAX_FILE (refused container_too_long_line) (ref_by packet_laws under file packets steps) (whole b) events rest
       (was_read packets MAX_FILE given ∷ []) is
       (λ later at split. subst (λ s. Reach later s) (sym (ref_by-code packet_laws under file packets steps b code found))
-      (reach_once packets MAX_FILE (refused packets_too_long_line) _ given later rest split))
+      (reach_once packets MAX_FILE (refused packets_too_long_line) (lines_behind under code steps) given later rest split))
 
 -- ---- demo
 
@@ -255,14 +266,16 @@ module _ (gate : GateLaws) (a : ℕ) (one : LoadView) (next : Member → Stage E
   reach_load events rest whole_events found e held (no_policy unknown is why) = reach_nothing events load_stage (nil_split events rest (e ∙ is))
   reach_load events rest whole_events found e held (no_container policy given exit is_named is judged more why) =
       subst (λ s. Reach events s) (sym (at_file gate a one next policy is_named))
-      (reach_once one.file MAX_FILE _ (judged_on gate a one next policy is_named) given events rest (e ∙ is))
+      (reach_once one.file MAX_FILE (told_of a (refused container_too_long_line)) (judged_on gate a one next policy is_named) given events rest (e ∙ is))
   reach_load events rest whole_events found e held (has_container policy b it given is_named is why) =
       subst (λ s. Reach events s) (sym (at_file gate a one next policy is_named))
-      (reach_read one.file MAX_FILE _ (judged_on gate a one next policy is_named) (whole b) events rest (was_read one.packets MAX_FILE given ∷ []) (e ∙ is)
+      (reach_read one.file MAX_FILE (told_of a (refused container_too_long_line)) (judged_on gate a one next policy is_named) (whole b) events rest
+      (was_read one.packets MAX_FILE given ∷ []) (e ∙ is)
       (λ later at split.
       let bytes : AreOfBytes (was_read one.file MAX_FILE (whole b) ∷ later) = subst AreOfBytes at held in
       subst (λ s. Reach later s) (sym (at_packets gate a one next policy is_named b bytes.0 it))
-      (reach_once one.packets MAX_FILE _ (packets_on gate a one next policy is_named b bytes.0 it) given later rest split)))
+      (reach_once one.packets MAX_FILE (told_of a (refused packets_too_long_line))
+      (packets_on gate a one next policy is_named b bytes.0 it) given later rest split)))
 
   -- a load that gave its agent
   went_load : (events : List Event) (agent : Member) → AreOfBytes events → LoadsMember a one events (Ok agent) → Follows texts events load_stage (next agent)
@@ -329,15 +342,21 @@ module _ (gate : GateLaws) where
   reach_loads : (a : ℕ) (loads : List LoadView) (next : List Member → Stage Effect) (events rest whole_events : List Event)
       (found : Result (List Member) Exit)
       → events ++ rest ≡ whole_events → AreOfBytes events → LoadsMembers a loads whole_events found → Reach events (agents_from a loads >>= next)
-  reach_loads a [] next events rest whole_events found e held all = reach_nothing events _ (nil_split events rest e)
-  reach_loads a (one ∷ loads) next events rest whole_events found e held (ended one_is) =
-      first_load a one loads next events (reach_load gate a one (others_on a loads next) events rest whole_events _ e held one_is)
-  reach_loads a (one ∷ loads) next events rest whole_events found e held (ended_later {first = first} {events = more} {agent = agent} one_is rest_is) =
-      then_others a one loads next agent events rest first more held one_is
-      (λ y bytes on. reach_loads (suc a) loads (λ agents. next (agent ∷ agents)) y rest more _ on bytes rest_is) (splits events rest first more e)
-  reach_loads a (one ∷ loads) next events rest whole_events found e held (loaded {first = first} {events = more} {agent = agent} one_is rest_is) =
-      then_others a one loads next agent events rest first more held one_is
-      (λ y bytes on. reach_loads (suc a) loads (λ agents. next (agent ∷ agents)) y rest more _ on bytes rest_is) (splits events rest first more e)
+  reach_loads a loads next events rest whole_events found e held all =
+      reach_nothing events (next []) (nil_split events rest e)
+  reach_loads a loads next events rest whole_events found e held (ended {one = one} {loads = others} {exit = exit} one_is) =
+      first_load a one others next events
+      (reach_load gate a one (others_on a others next) events rest whole_events (Err exit) e held one_is)
+  reach_loads a loads next events rest whole_events found e held
+      (ended_later {one = one} {loads = others} {first = first} {events = more} {agent = agent} {exit = exit} one_is rest_is) =
+      then_others a one others next agent events rest first more held one_is
+      (λ y bytes on. reach_loads (suc a) others (λ agents. next (agent ∷ agents)) y rest more (Err exit) on bytes rest_is)
+      (splits events rest first more e)
+  reach_loads a loads next events rest whole_events found e held
+      (loaded {one = one} {loads = others} {first = first} {events = more} {agent = agent} {agents = agents} one_is rest_is) =
+      then_others a one others next agent events rest first more held one_is
+      (λ y bytes on. reach_loads (suc a) others (λ all_agents. next (agent ∷ all_agents)) y rest more (Ok agents) on bytes rest_is)
+      (splits events rest first more e)
 
 module _ (gate : GateLaws) (scripts : ReadsScripts) (name : List ℕ) (events rest : List Event) (exit : Exit) (held : AreOfBytes events) where
   -- what the command goes on with behind its script
@@ -370,32 +389,42 @@ module _ (gate : GateLaws) (policies : ReadsPolicies) (packet_laws : ReadsPacket
       → Reach events (stage_of command)
   unfolding asm_command prove_command check_command run_command ref_command demo_command upgrade_command host_command script_of bpf_command policy_from assembled_of proved_of upgraded_of accepted_of accepted_code_of code_of compiled_of accepted_in
   reach (asm policy input output version bound) events rest exit held clean may =
-      under_reach (policy_of policy) _
-      (λ under. reads input MAX_SOURCE (refused source_too_long_line) (λ b. assembled_in version bound under b >>= λ out. writing output out)) events rest exit
-      (λ under m. reach_makes input output MAX_SOURCE _ _ _ _ events rest exit clean m) may
+      under_reach (policy_of policy)
+      (λ under. Makes input output MAX_SOURCE (AssemblesTo version bound under)
+      (ToldOf (StopsAt (assembled_in version bound under)) input source_too_long_line))
+      (λ under. reads input MAX_SOURCE (refused source_too_long_line)
+      (λ b. assembled_in version bound under b >>= λ out. writing output out)) events rest exit
+      (λ under m. reach_makes input output MAX_SOURCE (refused source_too_long_line)
+      (λ b. assembled_in version bound under b >>= λ out. writing output out) (AssemblesTo version bound under)
+      (ToldOf (StopsAt (assembled_in version bound under)) input source_too_long_line) events rest exit clean m) may
   reach (prove policy input output) events rest exit held clean may =
-      under_reach (policy_of policy) _
+      under_reach (policy_of policy)
+      (λ under. Makes input output MAX_FILE (ProvesExactly under) (ToldOf (StopsAt (proved_in under)) input container_too_long_line))
       (λ under. reads input MAX_FILE (refused container_too_long_line) (λ b. proved_in under b >>= λ out. writing output out)) events rest exit
-      (λ under m. reach_makes input output MAX_FILE _ _ _ _ events rest exit clean m) may
+      (λ under m. reach_makes input output MAX_FILE (refused container_too_long_line) (λ b. proved_in under b >>= λ out. writing output out)
+      (ProvesExactly under) (ToldOf (StopsAt (proved_in under)) input container_too_long_line) events rest exit clean m) may
   reach (check (named policy) file) events rest exit held clean may =
-      under_reach (policy_of policy) _
+      under_reach (policy_of policy) (λ under. Checks IsFirstVerdict under file)
       (λ under. reads file MAX_FILE (refused container_too_long_line) (λ b. accepted_in under b >>= λ accepted. printing accepted_line)) events rest exit
-      (λ under c. reach_check IsFirstVerdict under file _ _ events rest exit c) may
+      (λ under c. reach_check IsFirstVerdict under file (refused container_too_long_line)
+      (λ b. accepted_in under b >>= λ accepted. printing accepted_line) events rest exit c) may
   reach (check (from_file name) file) events rest exit held clean may = reach_from gate policies name file events rest exit may
   reach (run policy file packets steps) events rest exit held clean may =
-      under_reach (policy_of policy) _
+      under_reach (policy_of policy) (λ under. RunsCode IsFirstVerdict under file packets steps)
       (λ under. reads file MAX_FILE (refused container_too_long_line) (run_by gate packet_laws under file packets steps)) events rest exit
       (λ under r. reach_run gate packet_laws under file packets steps events rest exit held r) may
   reach (ref policy file packets steps) events rest exit held clean may =
-      under_reach (policy_of policy) _
+      under_reach (policy_of policy) (λ under. Refs under file packets steps)
       (λ under. reads file MAX_FILE (refused container_too_long_line) (ref_by packet_laws under file packets steps)) events rest exit
       (λ under r. reach_ref gate packet_laws under file packets steps events rest exit r) may
   reach (demo n) events rest exit held clean may = reach_demo n (demo_command n) events rest exit may
   reach (upgrade input output) events rest exit held clean may =
-      reach_makes input output MAX_FILE (refused container_too_long_line) (λ b. upgraded_in b >>= λ out. writing output out) _ _ events rest exit clean may
+      reach_makes input output MAX_FILE (refused container_too_long_line) (λ b. upgraded_in b >>= λ out. writing output out)
+      UpgradesTo (ToldOf IsNoUpgrade input container_too_long_line) events rest exit clean may
   reach (host script) events rest exit held clean may = reach_host gate scripts script events rest exit held may
   reach (bpf input output) events rest exit held clean may =
-      reach_makes input output MAX_PROGRAM_FILE (refused bpf_too_long_line) (λ b. compiled_in b >>= λ out. writing output out) _ _ events rest exit clean may
+      reach_makes input output MAX_PROGRAM_FILE (refused bpf_too_long_line) (λ b. compiled_in b >>= λ out. writing output out)
+      CompilesExactly (ToldOf IsNoProgram input bpf_too_long_line) events rest exit clean may
 
   meant : (command : Invocation) (e e' : List Event) (s t : SinkState) (status : ℕ) → Came (MayDo command) e e' s t status → Means command e e' s t status
   meant command e e' s t status (came events exit logged held may prints) = came_to events exit logged may prints
@@ -426,7 +455,7 @@ module _ (gate : GateLaws) (policies : ReadsPolicies) (packet_laws : ReadsPacket
     of_command (bpf input output) is = k.compiles_exactly input output is
 
     means_of : (o : Option Invocation) → command_of words ≡ o → MeansIfCommand o e e' s t status
-    means_of None is = nothing_asked _ (λ events exit may. may.0) e e' s t status (k.no_command is)
+    means_of None is = nothing_asked (EndsAtOnce (usage_exit texts)) (λ events exit may. may.0) e e' s t status (k.no_command is)
     means_of (Some command) is = meant command e e' s t status (of_command command is)
 
     pub means : MeansIfCommand (command_of words) e e' s t status
