@@ -62,7 +62,7 @@ use Rattle.pcc_stages.specs.Requests.{usage_exit}
 use Rattle.pcc_cli.specs.Means.{MayDo, Means, came_to, ran_out, MeansIfCommand, KeepsClauses}
 use Rattle.pcc_cli.proofs.EndLemmas.{GateLaws, judged_by}
 use Rattle.pcc_cli.proofs.CheckLemmas.{ReadsPolicies, checked_by, checked-spelled}
-use Rattle.pcc_cli.proofs.HostLemmas.{ReadsScripts, member_stage, first_stage, by_given, packet_reads}
+use Rattle.pcc_cli.proofs.HostLemmas.{ReadsScripts, member, member_stage, first_stage, by_given, packet_reads}
 use Rattle.pcc_cli.proofs.HeadlineLemmas.{ReadsPackets, run_by, run_by-accepted, ref_by, ref_by-code}
 
 -- ---- events before others
@@ -253,8 +253,10 @@ module _ (gate : GateLaws) (a : ℕ) (one : LoadView) (next : Member → Stage E
 
     member_goes : (agent : Member) (found : Result (List ℕ) Exit) → Ok agent ≡ member_with policy it.code found →
         (member_stage policy it.code found >>= next) ≡ next agent
-    member_goes agent (Ok packet) is = let same : record { policy = policy; code = it.code; packet = packet } ≡ agent = cc in ap next same
-    member_goes agent (Err exit) is = absurd (cc)
+    member_goes agent (Ok packet) is =
+        let both : Ok agent ≡ Ok (member policy it.code packet) = is in
+        let same : member policy it.code packet ≡ agent = cc in ap next same
+    member_goes agent (Err exit) is = let wrong : Ok agent ≡ Err exit = is in absurd (cc)
 
 module _ (gate : GateLaws) (a : ℕ) (one : LoadView) (next : Member → Stage Effect) where
   abbrev load_stage : Stage Effect
