@@ -1,6 +1,5 @@
 -- What a program of classic BPF is compiled to, and what is told where there is none.
 use Rattle.std.proofs.Common.{◌≡◌, ℕ, true≢false, List, Result, Ok, Err, refl, sym, ap, ◌∙◌, subst, arith}
-use Rattle.file_port.specs.Events.{Given, whole, missing, too_long, failed, no_memory}
 use Rattle.term_table.specs.Bytes.{IsBytes}
 use Rattle.proof_container.specs.Encoding.{encoding_of}
 use Rattle.pcc_gate.specs.Accepted.{IsAccepted}
@@ -9,25 +8,25 @@ use Rattle.policy_set.specs.Views.{built_in}
 use Rattle.bpf_words.specs.declared.insn.Bpf.{Bpf}
 use Rattle.bpf_words.specs.declared.fault.BpfFlaw.{BpfFlaw}
 use Rattle.bpf_words.specs.Programs.{IsProgram}
-use Rattle.bpf_words.specs.Reading.{AreBytes, program_of}
+use Rattle.bpf_words.specs.Flaws.{MeansFlaw}
+use Rattle.bpf_words.specs.Reading.{AreBytes, HasInsns, program_of}
 use Rattle.bpf_compile.specs.Compiled.{IsCompiled}
 use Rattle.bpf_compile.specs.Compilation.{bare_contents, compiled_container}
 use Rattle.bounds_prover.specs.Proving.{proved_container}
 use Rattle.pcc_lines.specs.Bpf.{bpf_flaw_line}
-use Rattle.pcc_lines.specs.Fixed.{bpf_too_long_line}
 use Rattle.pcc_stages.specs.Exits.{Exit}
-use Rattle.pcc_stages.specs.Stage.{Stage, stops, gives, reads, ◌>>=◌, went_on}
-use Rattle.pcc_stages.specs.Runs.{AreOctets}
+use Rattle.pcc_stages.specs.Stage.{Stage, stops, gives, reads, ◌>>=◌}
 use Rattle.pcc_stages.proofs.RunLemmas.{is_stop, exit_at}
-use Rattle.pcc_stages.specs.Texts.{texts}
 use Rattle.pcc_stages.specs.Stages.Common.{refused}
 use Rattle.pcc_commands.specs.Stages.Proving.{container_proved}
 use Rattle.pcc_commands.specs.Stages.Compiling.{program_found, program_in, compiled_as, compiled_in}
-use Rattle.pcc_cli.specs.Headline.{ComesToFlags, CompilesTo, IsToldOf}
+use Rattle.pcc_cli.specs.Headline.{ComesToFlags, CompilesExactly, IsNoProgram}
 
 -- what is read of bytes is a program, by the laws
-abbrev pub ReadsPrograms : Type 0
-ReadsPrograms = (bytes : List ℕ) (program : List Bpf) → AreBytes bytes → program_of bytes ≡ Ok program → IsProgram program
+pub record ReadsPrograms : Type 0 where
+  pub insns : (bytes : List ℕ) (program : List Bpf) → program_of bytes ≡ Ok program → HasInsns bytes program
+  pub lawful : (bytes : List ℕ) (program : List Bpf) → AreBytes bytes → program_of bytes ≡ Ok program → IsProgram program
+  pub flawed : (bytes : List ℕ) (flaw : BpfFlaw) → program_of bytes ≡ Err flaw → MeansFlaw bytes flaw
 
 -- a program has a container
 abbrev pub CompilesPrograms : Type 0
@@ -55,10 +54,10 @@ given_value other (reads name max more on) = other
 module _ (reads_programs : ReadsPrograms) (compiles_programs : CompilesPrograms) where
   module _ (bytes : List ℕ) (held : IsBytes bytes) where
     -- the stage at a program
-    at_program : (program : List Bpf) (is : program_of bytes ≡ Ok program) → compiled_in bytes ≡ gives (compiles_programs program (reads_programs bytes program held is)).0
+    at_program : (program : List Bpf) (is : program_of bytes ≡ Ok program) → compiled_in bytes ≡ gives (compiles_programs program (reads_programs.lawful bytes program held is)).0
     unfolding compiled_in program_in compiled_as
     at_program program is =
-        let made = compiles_programs program (reads_programs bytes program held is) in
+        let made = compiles_programs program (reads_programs.lawful bytes program held is) in
         ap (λ r. program_found r >>= λ p. container_proved (compiled_container p)) is ∙ ap container_proved made.1
 
     -- the stage at a flaw
@@ -66,32 +65,31 @@ module _ (reads_programs : ReadsPrograms) (compiles_programs : CompilesPrograms)
     unfolding compiled_in program_in compiled_as
     at_flaw flaw is = ap (λ r. program_found r >>= λ p. container_proved (compiled_container p)) is
 
-    compiles_by : (out : List ℕ) → compiled_in bytes ≡ gives out → (r : Result (List Bpf) BpfFlaw) → program_of bytes ≡ r → CompilesTo bytes out
+    compiles_by : (out : List ℕ) → compiled_in bytes ≡ gives out → (r : Result (List Bpf) BpfFlaw) → program_of bytes ≡ r → CompilesExactly bytes out
     compiles_by out given (Err flaw) is = absurd (true≢false (ap is_stop (sym (at_flaw flaw is) ∙ given)))
     compiles_by out given (Ok program) is =
-        let program_is = reads_programs bytes program held is in
+        let program_is = reads_programs.lawful bytes program held is in
         let made = compiles_programs program program_is in
         let same : made.0 ≡ out = ap (given_value out) (sym (at_program program is) ∙ given) in
         let compiled : IsCompiled program out = subst (IsCompiled program) same made.2 in
         record {
-          program = program;
-          reads = is;
+          compiles = record {
+            program = program;
+            insns = reads_programs.insns bytes program is;
+            lawful = program_is;
+            accepted = compiled.accepted;
+            flags = λ a. flags-come program program_is out compiled a;
+          };
           compiled = made.1 ∙ ap Ok same;
-          accepted = compiled.accepted;
-          flags = λ a. flags-come program program_is out compiled a;
         }
 
     told_by : (exit : Exit) → compiled_in bytes ≡ stops exit → (r : Result (List Bpf) BpfFlaw) → program_of bytes ≡ r
-        → (flaw : BpfFlaw) × (program_of bytes ≡ Err flaw) × (exit ≡ refused (bpf_flaw_line flaw))
-    told_by exit stop (Err flaw) is = (flaw, is, ap exit_at (sym stop ∙ at_flaw flaw is))
+        → IsNoProgram bytes exit
+    told_by exit stop (Err flaw) is = (flaw, reads_programs.flawed bytes flaw is, ap exit_at (sym stop ∙ at_flaw flaw is))
     told_by exit stop (Ok program) is = absurd (true≢false (ap is_stop (sym stop ∙ at_program program is)))
 
-  pub compiles : (bytes out : List ℕ) → IsBytes bytes → compiled_in bytes ≡ gives out → CompilesTo bytes out
+  pub compiles : (bytes out : List ℕ) → IsBytes bytes → compiled_in bytes ≡ gives out → CompilesExactly bytes out
   compiles bytes out held given = compiles_by bytes held out given (program_of bytes) refl
 
-  pub told : (input : List ℕ) (given : Given) (exit : Exit) → AreOctets given → went_on texts input (refused bpf_too_long_line) compiled_in given ≡ stops exit → IsToldOf input given exit
-  told input (whole bytes) exit held stop = told_by bytes held exit stop (program_of bytes) refl
-  told input missing exit held stop = sym (ap exit_at stop)
-  told input too_long exit held stop = sym (ap exit_at stop)
-  told input failed exit held stop = sym (ap exit_at stop)
-  told input no_memory exit held stop = sym (ap exit_at stop)
+  pub told : (bytes : List ℕ) (exit : Exit) → IsBytes bytes → compiled_in bytes ≡ stops exit → IsNoProgram bytes exit
+  told bytes exit held stop = told_by bytes held exit stop (program_of bytes) refl

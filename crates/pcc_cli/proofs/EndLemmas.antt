@@ -8,7 +8,7 @@ use Rattle.term_table.specs.Bytes.{IsBytes}
 use Rattle.pcc_gate.specs.declared.refusal.Refusal.{Refusal}
 use Rattle.pcc_gate.specs.Accepted.{IsAccepted}
 use Rattle.pcc_gate.specs.First.{first_refusal}
-use Rattle.pcc_gate.specs.Laws.{AcceptedFirst}
+use Rattle.pcc_gate.specs.Laws.{AcceptedFirst, RefusedFirst}
 use Rattle.pcc_gate.specs.WrittenOut.{IsAcceptedWrittenOut}
 use Rattle.pcc_gate.proofs.WrittenOut.{accepted-written, written-accepted}
 use Rattle.pcc_lines.specs.Fixed.{accepted_line, container_too_long_line}
@@ -21,7 +21,7 @@ use Rattle.pcc_stages.specs.declared.files.TheConstants.{MAX_FILE}
 use Rattle.pcc_stages.specs.Texts.{texts}
 use Rattle.pcc_stages.specs.Stages.Common.{refused, printing}
 use Rattle.pcc_commands.specs.Stages.Judging.{stops_if_refused}
-use Rattle.pcc_cli.specs.Headline.{IsVerdict, IsJudged, Checks}
+use Rattle.pcc_cli.specs.Headline.{IsFirstVerdict, IsJudged, Checks}
 
 -- ---- what follows a stage
 
@@ -185,9 +185,20 @@ shape (reads name max more on) none = absurd (true≢false none)
 pub given_bytes : (name : List ℕ) (max : ℕ) (given : Given) (rest events : List Event) (f g : FilesState) → events ≡ was_read name max given ∷ rest → Happens events f g → AreOctets given
 given_bytes name max given rest events f g is h = let at : Happens (was_read name max given ∷ rest) f g = subst (λ es. Happens es f g) is h in at.2
 
+-- what the second read behind another gave are bytes
+pub second_bytes : (name other : List ℕ) (max most : ℕ) (first given : Given) (events : List Event) (f g : FilesState)
+    → events ≡ was_read name max first ∷ was_read other most given ∷ [] → Happens events f g → AreOctets given
+second_bytes name other max most first given events f g is h =
+    let at : Happens (was_read name max first ∷ was_read other most given ∷ []) f g = subst (λ es. Happens es f g) is h in at.3.2
+
 -- ---- check
 
-module _ (accepted_first : AcceptedFirst) (under : PolicyView) where
+-- what the gate finds, by its laws
+pub record GateLaws : Type 0 where
+  pub accepted : AcceptedFirst
+  pub refusals : RefusedFirst
+
+module _ (gate : GateLaws) (under : PolicyView) where
   -- what `check` goes on with
   abbrev pub judged_by : Option Refusal → Stage Effect
   judged_by r = stops_if_refused r >>= λ accepted. printing accepted_line
@@ -218,33 +229,40 @@ module _ (accepted_first : AcceptedFirst) (under : PolicyView) where
   }
 
   pub verdict : (b : List ℕ) → IsBytes b → (r : Option Refusal) → first_refusal under b ≡ r
-      → IsVerdict under b (end_at (judged_by r))
+      → IsFirstVerdict under b (end_at (judged_by r))
   verdict b held None is =
-      let a : IsAccepted under b = (accepted_first under b held).1 is in
+      let a : IsAccepted under b = (gate.accepted under b held).1 is in
       record {
-        accepted = (λ e. a, λ a. refl);
-        written_out = (λ e. written b a, λ w. refl);
-        refused = λ r some. let none : None ≡ Some r = sym is ∙ some in absurd (cc);
+        verdict = record {
+          accepted = (λ e. a, λ a. refl);
+          written_out = (λ e. written b a, λ w. refl);
+          judged = inl a;
+        };
+        refused = λ r first. let none : None ≡ Some r = sym is ∙ (gate.refusals under b r held).1 first in absurd (cc);
         judged = inl a;
       }
   verdict b held (Some r) is = record {
-    accepted = (
-      λ e. let wrong : 1 ≡ 0 = ap (λ (x : Exit). x.status) e in absurd (omega arith),
-      λ a. let none : Some r ≡ None = sym is ∙ (accepted_first under b held).0 a in absurd (cc),
-    );
-    written_out = (
-      λ e. let wrong : 1 ≡ 0 = ap (λ (x : Exit). x.status) e in absurd (omega arith),
-      λ w.
-          let a : IsAccepted under b = unwritten b w in
-          let none : Some r ≡ None = sym is ∙ (accepted_first under b held).0 a in
-          absurd (cc),
-    );
-    refused = λ other some. ap (λ (x : Option Refusal). end_at (judged_by x)) (sym is ∙ some);
-    judged = inr (r, is);
+    verdict = record {
+      accepted = (
+        λ e. let wrong : 1 ≡ 0 = ap (λ (x : Exit). x.status) e in absurd (omega arith),
+        λ a. let none : Some r ≡ None = sym is ∙ (gate.accepted under b held).0 a in absurd (cc),
+      );
+      written_out = (
+        λ e. let wrong : 1 ≡ 0 = ap (λ (x : Exit). x.status) e in absurd (omega arith),
+        λ w.
+            let a : IsAccepted under b = unwritten b w in
+            let none : Some r ≡ None = sym is ∙ (gate.accepted under b held).0 a in
+            absurd (cc),
+      );
+      judged = inr (r, refl);
+    };
+    refused = λ other first.
+        ap (λ (x : Option Refusal). end_at (judged_by x)) (sym is ∙ (gate.refusals under b other held).1 first);
+    judged = inr (r, (gate.refusals under b r held).0 is);
   }
 
   pub judged_as : (file : List ℕ) (given : Given) → AreOctets given
-      → IsJudged under file given
+      → IsJudged IsFirstVerdict under file given
       (end_at
       (went_on texts file (refused container_too_long_line) (λ b. judged_by (first_refusal under b))
       given))
@@ -257,7 +275,8 @@ module _ (accepted_first : AcceptedFirst) (under : PolicyView) where
   pub checks : (file : List ℕ) (events : List Event) (exit : Exit) (f g : FilesState) → Happens events f g
       → Ended
       (reads file MAX_FILE (refused container_too_long_line)
-      (λ b. judged_by (first_refusal under b))) events exit → Checks under file events exit
+      (λ b. judged_by (first_refusal under b))) events exit
+      → Checks IsFirstVerdict under file events exit
   checks file events exit f g happened e =
       let once = ended_once file MAX_FILE (refused container_too_long_line)
       (λ b. judged_by (first_refusal under b)) (λ b. judged_by-ended (first_refusal under b))
@@ -267,7 +286,7 @@ module _ (accepted_first : AcceptedFirst) (under : PolicyView) where
         given = once.given;
         one_read = once.is;
         judged =
-            subst (IsJudged under file once.given) (sym once.ends)
+            subst (IsJudged IsFirstVerdict under file once.given) (sym once.ends)
             (judged_as file once.given
             (given_bytes file MAX_FILE once.given [] events f g once.is happened));
       }

@@ -1,9 +1,8 @@
--- What a run means, by its events and its exit.
-use Rattle.std.proofs.Common.{◌≡◌, ℕ, suc, ◌+◌, ◌*◌, ◌%◌, ◌^◌, ◌<◌, ◌≤◌, ◌⊎◌, inl, inr, false, true≢false, List, [], ◌∷◌, ◌++◌, length, Option, Some, None, IfSome, is_some, unwrap_or, Result, Ok, Err, refl, sym, ap, ◌∙◌, subst, arith}
-use Rattle.std.proofs.lemmas.List.{append-nil}
+-- What each command does, by its events and its exit; and what accepted code is worth.
+use Rattle.std.proofs.Common.{◌≡◌, ℕ, suc, ◌+◌, ◌*◌, ◌%◌, ◌^◌, ◌<◌, ◌≤◌, ◌↔◌, ◌⊎◌, inl, inr, false, true≢false, List, [], ◌∷◌, ◌++◌, length, Option}
+use Rattle.std.proofs.Common.{Some, None, IfSome, is_some, unwrap_or, Result, Ok, Err, refl, sym, ap, ◌∙◌, subst, arith}
 use Rattle.file_port.specs.Events.{Given, whole, missing, too_long, failed, no_memory, Event, was_read, was_written}
 use Rattle.file_port.specs.Files.{FilesState}
-use Rattle.file_port.specs.Sink.{SinkState}
 use Rattle.file_port.specs.declared.Put.{Put}
 use Rattle.alpha_words.specs.declared.insn.Insn.{Insn}
 use Rattle.alpha_cfg.specs.Isolation.{ChangesWritable, DependsOnReadable}
@@ -16,6 +15,7 @@ use Rattle.reference_machine.specs.Starts.{StartView, start_state}
 use Rattle.packet_store.specs.declared.fault.PacketFault.{PacketFault}
 use Rattle.packet_store.specs.declared.reader.TheConstants.{MAX_PACKET}
 use Rattle.packet_store.specs.PacketDecoding.{decoded_packets}
+use Rattle.packet_store.specs.Packets.{AreShort, packets_encoding, IsFirstFault}
 use Rattle.packet_store.specs.PolicyStarts.{start_from, start_of}
 use Rattle.packet_store.specs.Results.{result_from, packet_result}
 use Rattle.packet_store.specs.StartMeets.{StartMeets, StartMeetsIn}
@@ -25,7 +25,6 @@ use Rattle.vcgen.specs.Safety.{IsReturn}
 use Rattle.pcc_gate.specs.declared.refusal.Refusal.{Refusal}
 use Rattle.pcc_gate.specs.Accepted.{IsAccepted}
 use Rattle.pcc_gate.specs.First.{first_refusal}
-use Rattle.pcc_gate.specs.Laws.{AcceptedFirst}
 use Rattle.pcc_gate.specs.Safe.{AcceptedSafe, AcceptedReturns}
 use Rattle.bounds_prover.specs.declared.fault.ProveFlaw.{ProveFlaw}
 use Rattle.bounds_prover.specs.Proving.{proved_container}
@@ -33,17 +32,18 @@ use Rattle.bounds_prover.specs.ProvedLaws.{ProvedAccepted}
 use Rattle.gate_upgrade.specs.declared.fault.UpgradeFlaw.{UpgradeFlaw}
 use Rattle.gate_upgrade.specs.Upgrading.{upgraded_container}
 use Rattle.gate_upgrade.specs.Upgrades.{IsUpgrade}
-use Rattle.gate_upgrade.specs.Laws.{UpgradedExactly, UpgradedAccepted}
+use Rattle.gate_upgrade.specs.Laws.{UpgradedExactly, UpgradeRefused, UpgradedAccepted}
 use Rattle.pcc_words.specs.Invocations.{named, from_file, Invocation, asm, prove, check, run, ref, demo, upgrade, host, bpf}
 use Rattle.pcc_lines.specs.Fixed.{accepted_line, bpf_too_long_line, unknown_policy_line, container_too_long_line, packets_too_long_line, source_too_long_line}
+use Rattle.pcc_lines.specs.PacketFaults.{packet_fault_line}
 use Rattle.pcc_lines.specs.Refusals.{refusal_line}
 use Rattle.pcc_lines.specs.Results.{result_lines}
 use Rattle.pcc_lines.specs.Sources.{written_line}
 use Rattle.pcc_stages.specs.Exits.{Exit, Change}
 use Rattle.pcc_stages.specs.Requests.{missing_exit, read_fault_exit, no_memory_exit}
 use Rattle.pcc_stages.specs.Stage.{Stage, stops, gives, reads, ◌>>=◌, went_on, Follows}
-use Rattle.pcc_stages.specs.Runs.{Effect, Happens, written_exit, EndsRun, decided, out_of_memory as ran_out, Runs}
-use Rattle.pcc_stages.proofs.RunLemmas.{is_stop, is_read}
+use Rattle.pcc_stages.specs.Runs.{Effect, AreOctets, Happens, done_exit, written_exit}
+use Rattle.pcc_stages.proofs.RunLemmas.{is_stop, is_read, exit_at}
 use Rattle.pcc_stages.specs.declared.files.TheConstants.{MAX_FILE}
 use Rattle.pcc_stages.specs.Texts.{texts}
 use Rattle.pcc_stages.specs.Stages.Common.{refused, policy_found, printing}
@@ -67,7 +67,7 @@ use Rattle.pcc_commands.specs.Commands.Reference.{ref_command}
 use Rattle.pcc_commands.specs.Commands.Running.{run_command}
 use Rattle.pcc_commands.specs.Commands.Upgrade.{upgrade_command}
 use Rattle.pcc_commands.specs.Commands.Demo.{demo_effect, demo_policy, demo_command}
-use Rattle.pcc_commands.specs.Tasks.{stage_of, task_of_command}
+use Rattle.pcc_commands.specs.Tasks.{stage_of}
 use Rattle.packet_store.proofs.StartLemmas.{start_from-good, start_from-state}
 use Rattle.packet_store.proofs.Meeting.{start_from-meets}
 use Rattle.reference_machine.specs.Agents.{IsInArena, AreInArena}
@@ -75,18 +75,74 @@ use Rattle.word_ops.specs.Rights.{Rights}
 use Rattle.alpha_turns.specs.Parts.{AreApart, LieIn, LieBetween, part_from}
 use Rattle.agent_host.specs.declared.host.TheConstants.{MAX_AGENTS}
 use Rattle.agent_host.specs.Agents.{base_of}
-use Rattle.pcc_cli.specs.Headline.{agent_part, StaysInPart, AgentsStayInParts, IsJudged, lines_exit, run_exit, RunsCode, not_accepted, accepted, Refs, no_code, ran, Makes, not_made, made, Demonstrates, demonstrated, not_demonstrated, StopsWith, AssemblesTo, ProvesTo, UpgradesTo, CompilesTo, IsToldOf, Checks, UnderNamed, Does, Means, came, out_of_memory, MeansIfCommand, AcceptedRunsSafely, IsShortOrReturns, BoundedReturns}
+use Rattle.pcc_cli.specs.Headline.{agent_part, StaysInPart, AgentsStayInParts, ToldOf, StopsAt, IsFirstVerdict, IsJudged, IsRunOn, on_packets}
+use Rattle.pcc_cli.specs.Headline.{no_packets, IsRunBy, Checks, RunsCode, not_accepted, accepted, Refs, no_code, ran, Makes, not_made, made}
+use Rattle.pcc_cli.specs.Headline.{Demonstrates, demonstrated, not_demonstrated, AssemblesTo, IsUnproved, ProvesExactly, UpgradesTo, IsNoUpgrade}
+use Rattle.pcc_cli.specs.Headline.{CompilesExactly, IsNoProgram, AcceptedRunsSafely, IsShortOrReturns, BoundedReturns}
+use Rattle.pcc_cli.specs.Clauses.{Under}
+use Rattle.pcc_cli.specs.Means.{MayDo}
 use Rattle.pcc_commands.proofs.RunLemmas.{code_given, accepted_code_of_bytes}
 use Rattle.pcc_cli.proofs.CheckLemmas.{ReadsPolicies, checks_from}
 use Rattle.pcc_cli.proofs.CompileLemmas.{ReadsPrograms, CompilesPrograms, compiles, told}
 use Rattle.pcc_cli.proofs.TaskLemmas.{code_in-ends, assembled_in-ends, proved_in-ends, upgraded_in-ends, compiled_in-ends, demo_ends}
-use Rattle.pcc_cli.proofs.EndLemmas.{Ended, change_at, checks, end_at, ended_at_once, ended_of, ended_once, first_read, given_bytes, no_read, read_once, shape, stopped_there, verdict, went_on-silent}
-use Rattle.pcc_cli.proofs.HostLemmas.{hosts}
+use Rattle.pcc_cli.proofs.EndLemmas.{GateLaws, Ended, change_at, checks, end_at, ended_at_once, ended_of, ended_once, first_read, given_bytes}
+use Rattle.pcc_cli.proofs.EndLemmas.{second_bytes, no_read, read_once, shape, stopped_there, verdict, went_on-silent}
+use Rattle.pcc_cli.proofs.HostLemmas.{ReadsScripts, hosts}
+
+-- ---- what is told of what a read gave
+
+-- where a stage goes on with the bytes, and stops
+told_of_stage : {A : Type 0} (Tells : List ℕ → Exit → Type 0) (name line : List ℕ) (stage : List ℕ → Stage A) (given : Given) (exit : Exit)
+    → ((b : List ℕ) → given ≡ whole b → stage b ≡ stops exit → Tells b exit) → went_on texts name (refused line) stage given ≡ stops exit
+    → ToldOf Tells name line given exit
+told_of_stage Tells name line stage (whole b) exit each stop = each b refl stop
+told_of_stage Tells name line stage missing exit each stop = sym (ap exit_at stop)
+told_of_stage Tells name line stage too_long exit each stop = sym (ap exit_at stop)
+told_of_stage Tells name line stage failed exit each stop = sym (ap exit_at stop)
+told_of_stage Tells name line stage no_memory exit each stop = sym (ap exit_at stop)
+
+-- the same of the stage itself
+stops_told : {A : Type 0} (name line : List ℕ) (stage : List ℕ → Stage A) (given : Given) (exit : Exit) → went_on texts name
+    (refused line) stage given ≡ stops exit
+    → ToldOf (StopsAt stage) name line given exit
+stops_told name line stage given exit stop = told_of_stage (StopsAt stage) name line stage given exit (λ b is at. at) stop
 
 -- ---- run and ref
 
+-- what is printed of the packets that bytes were read as, or of their fault
+abbrev lines_exit : PolicyView → List Insn → ℕ → Result (List (List ℕ)) PacketFault → Exit
+lines_exit policy code steps (Ok packets) = done_exit (result_lines policy.kind (packet_result policy code steps) 0 packets)
+lines_exit policy code steps (Err fault) = refused (packet_fault_line fault)
+
+-- the same, by what the read of PACKETS gave
+abbrev run_exit : PolicyView → List Insn → ℕ → List ℕ → Given → Exit
+run_exit policy code steps packets (whole bytes) = lines_exit policy code steps (decoded_packets bytes)
+run_exit policy code steps packets missing = missing_exit texts packets
+run_exit policy code steps packets too_long = refused packets_too_long_line
+run_exit policy code steps packets failed = read_fault_exit texts packets
+run_exit policy code steps packets no_memory = no_memory_exit
+
+-- what packets are, by the laws
+pub record ReadsPackets : Type 0 where
+  pub whole_file : (bytes : List ℕ) (ps : List (List ℕ)) → IsBytes bytes → (decoded_packets bytes ≡ Ok ps) ↔ (AreShort ps × (bytes ≡ packets_encoding ps))
+  pub faulty : (bytes : List ℕ) (fault : PacketFault) → IsBytes bytes → (decoded_packets bytes ≡ Err fault) ↔ IsFirstFault bytes fault
+
+module _ (packet_laws : ReadsPackets) (under : PolicyView) (code : List Insn) (steps : ℕ) where
+  run_on : (b : List ℕ) → IsBytes b → (r : Result (List (List ℕ)) PacketFault) → decoded_packets b ≡ r → IsRunOn under code steps b
+      (lines_exit under code steps r)
+  run_on b held (Ok ps) is = let w = (packet_laws.whole_file b ps held).0 is in on_packets ps w.0 w.1 refl
+  run_on b held (Err fault) is = no_packets fault ((packet_laws.faulty b fault held).0 is) refl
+
+  run_told : (packets : List ℕ) (given : Given) (exit : Exit) → AreOctets given → exit ≡ run_exit under code steps packets given
+      → IsRunBy under code steps packets given exit
+  run_told packets (whole b) exit held is = subst (IsRunOn under code steps b) (sym is) (run_on b held (decoded_packets b) refl)
+  run_told packets missing exit held is = is
+  run_told packets too_long exit held is = is
+  run_told packets failed exit held is = is
+  run_told packets no_memory exit held is = is
+
 -- what is run of code, behind its container
-abbrev after_code : PolicyView → List Insn → ℕ → List ℕ → Stage Effect
+abbrev pub after_code : PolicyView → List Insn → ℕ → List ℕ → Stage Effect
 after_code under code steps packets =
     reads packets MAX_FILE (refused packets_too_long_line)
     (λ b. packets_in b >>= λ all. printing
@@ -134,7 +190,8 @@ module _ (under : PolicyView) (code : List Insn) (steps : ℕ) (packets : List �
       ⊎ ((text : List ℕ) × (to : List ℕ) × (bytes : List ℕ) × (answer : Put) × (later ≡ gives (record { text = text; change = Some (to, bytes) }))
       × (events ≡ asked ++ was_written to bytes answer ∷ []) × (exit ≡ written_exit texts to text answer)) → RanPackets events exit
   ran_packets asked later events exit follows ended does =
-      let once = ended_once packets MAX_FILE (refused packets_too_long_line) (λ b. lines (decoded_packets b)) (λ b. lines-ended (decoded_packets b)) (λ b. lines-silent (decoded_packets b))
+      let once = ended_once packets MAX_FILE (refused packets_too_long_line) (λ b. lines (decoded_packets b)) (λ b. lines-ended (decoded_packets b))
+      (λ b. lines-silent (decoded_packets b))
       asked later events exit follows ended does in
       record { given = once.given; is = once.is; ends = once.ends ∙ run-exit once.given }
 
@@ -178,15 +235,15 @@ packets_there under code steps packets rest later first events asked exit is s a
         ∙ ap change_at (sym r.goes) ∙ ap change_at d.4 in
         absurd (true≢false (sym (ap is_some none)))
 
-module _ (accepted_first : AcceptedFirst) (under : PolicyView) (file packets : List ℕ) (steps : ℕ)
+module _ (gate : GateLaws) (packet_laws : ReadsPackets) (under : PolicyView) (file packets : List ℕ) (steps : ℕ)
   where
     -- what `run` goes on with
-    abbrev run_by : List ℕ → Stage Effect
+    abbrev pub run_by : List ℕ → Stage Effect
     run_by b =
         accepted_code_in under b >>= λ code. packets_of packets >>= λ all. printing
         (result_lines under.kind (packet_result under code steps) 0 all)
 
-    run_by-accepted : (b : List ℕ) (a : IsAccepted under b) → first_refusal under b ≡ None
+    pub run_by-accepted : (b : List ℕ) (a : IsAccepted under b) → first_refusal under b ≡ None
         → run_by b
         ≡ after_code under a.code steps packets
     unfolding packets_of
@@ -212,28 +269,30 @@ module _ (accepted_first : AcceptedFirst) (under : PolicyView) (file packets : L
           ≡ was_read file MAX_FILE given ∷ rest → went_on texts file
           (refused container_too_long_line) run_by given ≡ stops exit'
           → Follows texts rest (went_on texts file (refused container_too_long_line) run_by given)
-          e.later → IsJudged under file given exit' → 0 < exit'.status
-          → RunsCode under file packets steps events exit
+          e.later → IsJudged IsFirstVerdict under file given exit' → 0 < exit'.status
+          → RunsCode IsFirstVerdict under file packets steps events exit
       run_stopped given exit' rest is stop follows judged some =
           let there = stopped_there exit' rest e.later
           (was_read file MAX_FILE given) events e.asked exit is
           (went_on texts file (refused container_too_long_line) run_by given) stop follows e.does in
-          not_accepted given there.0 (subst (IsJudged under file given) (sym there.1) judged)
+          not_accepted given there.0 (subst (IsJudged IsFirstVerdict under file given) (sym there.1) judged)
           (subst (λ (x : Exit). 0 < x.status) (sym there.1) some)
 
       run_judged : (b : List ℕ) (rest : List Event) (r : Option Refusal) → first_refusal under b ≡ r
           → IsBytes b → e.asked ≡ was_read file MAX_FILE (whole b) ∷ rest
           → Follows texts rest (run_by b) e.later
-          → RunsCode under file packets steps events exit
+          → RunsCode IsFirstVerdict under file packets steps events exit
       run_judged b rest (Some r) some held is follows =
           run_stopped (whole b) (refused (refusal_line r)) rest is (run_by-refused b r some) follows
-          (verdict accepted_first under b held (Some r) some) (omega arith)
+          (verdict gate under b held (Some r) some) (omega arith)
       run_judged b rest None none held is follows =
-          let a : IsAccepted under b = (accepted_first under b held).1 none in
+          let a : IsAccepted under b = (gate.accepted under b held).1 none in
           let there = packets_there under a.code steps packets rest e.later
           (was_read file MAX_FILE (whole b)) events e.asked exit is (run_by b)
           (run_by-accepted b a none) follows e.ended e.does in
-          accepted b a there.0 there.1 there.2
+          accepted b a there.0 there.1
+          (run_told packet_laws under a.code steps packets there.0 exit
+          (second_bytes file packets MAX_FILE MAX_FILE (whole b) there.0 events f g there.1 happened) there.2)
 
       -- the bytes that were read first
       first_bytes : (b : List ℕ) (rest : List Event) → e.asked ≡ was_read file MAX_FILE
@@ -255,7 +314,7 @@ module _ (accepted_first : AcceptedFirst) (under : PolicyView) (file packets : L
       run_given : (given : Given) (rest : List Event) → e.asked
           ≡ was_read file MAX_FILE given ∷ rest → Follows texts rest
           (went_on texts file (refused container_too_long_line) run_by given) e.later
-          → RunsCode under file packets steps events exit
+          → RunsCode IsFirstVerdict under file packets steps events exit
       run_given (whole b) rest is follows =
           run_judged b rest (first_refusal under b) refl (first_bytes b rest is) is follows
       run_given missing rest is follows = run_stopped missing
@@ -268,7 +327,7 @@ module _ (accepted_first : AcceptedFirst) (under : PolicyView) (file packets : L
       run_given no_memory rest is follows =
           run_stopped no_memory no_memory_exit rest is refl follows refl (omega arith)
 
-      runs_code : RunsCode under file packets steps events exit
+      runs_code : RunsCode IsFirstVerdict under file packets steps events exit
       runs_code =
           let r = first_read file MAX_FILE
           (refused container_too_long_line) run_by e.asked e.later e.ended e.follows in
@@ -280,14 +339,14 @@ value_at (stops exit) = None
 value_at (gives x) = Some x
 value_at (reads name max more on) = None
 
-module _ (under : PolicyView) (file packets : List ℕ) (steps : ℕ) where
+module _ (packet_laws : ReadsPackets) (under : PolicyView) (file packets : List ℕ) (steps : ℕ) where
   -- what `ref` goes on with
-  abbrev ref_by : List ℕ → Stage Effect
+  abbrev pub ref_by : List ℕ → Stage Effect
   ref_by b =
       code_in under b >>= λ code. packets_of packets >>= λ all. printing
       (result_lines under.kind (packet_result under code steps) 0 all)
 
-  ref_by-code : (b : List ℕ) (code : List Insn) → code_in under b ≡ gives code → ref_by b
+  pub ref_by-code : (b : List ℕ) (code : List Insn) → code_in under b ≡ gives code → ref_by b
       ≡ after_code under code steps packets
   unfolding packets_of
   ref_by-code b code is =
@@ -308,10 +367,11 @@ module _ (under : PolicyView) (file packets : List ℕ) (steps : ℕ) where
       ap value_at (sym is ∙ code_given under b a.contents a.code a.marks a.accepts.passes) in
       cc
 
-  module _ (events : List Event) (exit : Exit) (e : Ended (reads file MAX_FILE (refused container_too_long_line) ref_by) events exit) where
+  module _ (events : List Event) (exit : Exit) (f g : FilesState) (happened : Happens events f g)
+      (e : Ended (reads file MAX_FILE (refused container_too_long_line) ref_by) events exit) where
     ref_stopped : (given : Given) (exit' : Exit) (rest : List Event)
         → e.asked ≡ was_read file MAX_FILE given ∷ rest
-        → StopsWith file (refused container_too_long_line) (code_in under) given exit'
+        → ToldOf (StopsAt (code_in under)) file container_too_long_line given exit'
         → went_on texts file (refused container_too_long_line) ref_by given ≡ stops exit'
         → Follows texts rest (went_on texts file (refused container_too_long_line) ref_by given)
         e.later → Refs under file packets steps events exit
@@ -320,7 +380,7 @@ module _ (under : PolicyView) (file packets : List ℕ) (steps : ℕ) where
         (was_read file MAX_FILE given) events e.asked exit is
         (went_on texts file (refused container_too_long_line) ref_by given) stop follows e.does in
         no_code given there.0
-        (subst (StopsWith file (refused container_too_long_line) (code_in under) given)
+        (subst (ToldOf (StopsAt (code_in under)) file container_too_long_line given)
         (sym there.1) why)
 
     ref_code : (b : List ℕ) (rest : List Event)
@@ -332,11 +392,15 @@ module _ (under : PolicyView) (file packets : List ℕ) (steps : ℕ) where
         let there = packets_there under code steps packets rest e.later
         (was_read file MAX_FILE (whole b)) events e.asked exit is (ref_by b)
         (ref_by-code b code found) follows e.ended e.does in
-        ran b code there.0 there.1 found there.2 (same_code b code found)
+        ran b code there.0 there.1 found
+        (run_told packet_laws under code steps packets there.0 exit
+        (second_bytes file packets MAX_FILE MAX_FILE (whole b) there.0 events f g there.1 happened) there.2)
+        (same_code b code found)
     ref_code b rest (inr (exit', stop)) is follows =
         ref_stopped (whole b) exit' rest is stop (ref_by-stop b exit' stop) follows
 
-    ref_given : (given : Given) (rest : List Event) → e.asked ≡ was_read file MAX_FILE given ∷ rest → Follows texts rest (went_on texts file (refused container_too_long_line) ref_by given) e.later
+    ref_given : (given : Given) (rest : List Event) → e.asked ≡ was_read file MAX_FILE given ∷ rest → Follows texts rest
+        (went_on texts file (refused container_too_long_line) ref_by given) e.later
         → Refs under file packets steps events exit
     ref_given (whole b) rest is follows =
         ref_code b rest (shape (code_in under b) (code_in-ends under b)) is follows
@@ -358,20 +422,26 @@ module _ (input output : List ℕ) (max : ℕ) (more : Exit) (made_of : List ℕ
   abbrev copy_by : List ℕ → Stage Effect
   copy_by b = made_of b >>= λ out. writing output out
 
-  module _ (events : List Event) (exit : Exit) (is_made : (b out : List ℕ) (rest : List Event) → events ≡ was_read input max (whole b) ∷ rest → made_of b ≡ gives out → IsMade b out)
-      (is_told : (given : Given) (exit' : Exit) (rest : List Event) → events ≡ was_read input max given ∷ rest → went_on texts input more made_of given ≡ stops exit' → IsTold given exit')
+  module _ (events : List Event) (exit : Exit) (is_made : (b out : List ℕ) (rest : List Event) → events ≡ was_read input max (whole b) ∷ rest
+      → made_of b ≡ gives out → IsMade b out)
+      (is_told : (given : Given) (exit' : Exit) (rest : List Event) → events ≡ was_read input max given ∷ rest
+      → went_on texts input more made_of given ≡ stops exit' → IsTold given exit')
       (e : Ended (reads input max more copy_by) events exit) where
-    copy_stopped : (given : Given) (exit' : Exit) (rest : List Event) → e.asked ≡ was_read input max given ∷ rest → went_on texts input more made_of given ≡ stops exit'
-        → went_on texts input more copy_by given ≡ stops exit' → Follows texts rest (went_on texts input more copy_by given) e.later → Makes input output max IsMade IsTold events exit
+    copy_stopped : (given : Given) (exit' : Exit) (rest : List Event) → e.asked ≡ was_read input max given ∷ rest
+        → went_on texts input more made_of given ≡ stops exit'
+        → went_on texts input more copy_by given ≡ stops exit' → Follows texts rest (went_on texts input more copy_by given) e.later
+        → Makes input output max IsMade IsTold events exit
     copy_stopped given exit' rest is why stop follows =
-        let there = stopped_there exit' rest e.later (was_read input max given) events e.asked exit is (went_on texts input more copy_by given) stop follows e.does in
+        let there = stopped_there exit' rest e.later (was_read input max given) events e.asked exit is
+        (went_on texts input more copy_by given) stop follows e.does in
         not_made given there.0 (subst (IsTold given) (sym there.1) (is_told given exit' [] there.0 why))
 
     -- the effect of what was made
     abbrev made_effect : List ℕ → Effect
     made_effect out = record { text = written_line (length out); change = Some (output, out) }
 
-    copied : (b out : List ℕ) (rest : List Event) → made_of b ≡ gives out → e.asked ≡ was_read input max (whole b) ∷ rest → Follows texts rest (copy_by b) e.later
+    copied : (b out : List ℕ) (rest : List Event) → made_of b ≡ gives out → e.asked ≡ was_read input max (whole b) ∷ rest → Follows texts rest
+        (copy_by b) e.later
         → Makes input output max IsMade IsTold events exit
     copied b out rest is asked follows = by e.does
       where
@@ -383,7 +453,8 @@ module _ (input output : List ℕ) (max : ℕ) (more : Exit) (made_of : List ℕ
 
         by : ((events ≡ e.asked) × (exit ≡ end_at e.later) × (change_at e.later ≡ None))
             ⊎ ((text : List ℕ) × (to : List ℕ) × (bytes : List ℕ) × (answer : Put) × (e.later ≡ gives (record { text = text; change = Some (to, bytes) }))
-            × (events ≡ e.asked ++ was_written to bytes answer ∷ []) × (exit ≡ written_exit texts to text answer)) → Makes input output max IsMade IsTold events exit
+            × (events ≡ e.asked ++ was_written to bytes answer ∷ []) × (exit ≡ written_exit texts to text answer))
+            → Makes input output max IsMade IsTold events exit
         by (inl d) = let none : Some (output, out) ≡ None = ap change_at (sym (last.1 ∙ at)) ∙ d.2 in absurd (true≢false (ap is_some none))
         by (inr d) =
             let same : Some (made_effect out) ≡ Some (record { text = d.0; change = Some (d.1, d.2) }) = ap value_at (sym (last.1 ∙ at) ∙ d.4) in
@@ -394,7 +465,8 @@ module _ (input output : List ℕ) (max : ℕ) (more : Exit) (made_of : List ℕ
             let bytes : d.2 ≡ out = ap (λ (x : Change). (unwrap_or x (output, out)).1) change in
             let split : events ≡ was_read input max (whole b) ∷ was_written output out d.3 ∷ [] =
             d.5 ∙ ap (λ es. es ++ was_written d.1 d.2 d.3 ∷ []) (asked ∙ ap (λ es. was_read input max (whole b) ∷ es) last.0)
-            ∙ ap (λ n. was_read input max (whole b) ∷ was_written n d.2 d.3 ∷ []) to ∙ ap (λ o. was_read input max (whole b) ∷ was_written output o d.3 ∷ []) bytes in
+            ∙ ap (λ n. was_read input max (whole b) ∷ was_written n d.2 d.3 ∷ []) to ∙ ap
+            (λ o. was_read input max (whole b) ∷ was_written output o d.3 ∷ []) bytes in
             made b out d.3 split (is_made b out (was_written output out d.3 ∷ []) split is)
             (d.6 ∙ ap (λ n. written_exit texts n d.0 d.3) to ∙ ap (λ x. written_exit texts output x d.3) text)
 
@@ -403,7 +475,8 @@ module _ (input output : List ℕ) (max : ℕ) (more : Exit) (made_of : List ℕ
     copy_made b rest (inl (out, is)) asked follows = copied b out rest is asked follows
     copy_made b rest (inr (exit', is)) asked follows = copy_stopped (whole b) exit' rest asked is (ap (λ c. c >>= λ out. writing output out) is) follows
 
-    copy_given : (given : Given) (rest : List Event) → e.asked ≡ was_read input max given ∷ rest → Follows texts rest (went_on texts input more copy_by given) e.later
+    copy_given : (given : Given) (rest : List Event) → e.asked ≡ was_read input max given ∷ rest → Follows texts rest
+        (went_on texts input more copy_by given) e.later
         → Makes input output max IsMade IsTold events exit
     copy_given (whole b) rest is follows = copy_made b rest (shape (made_of b) (ends b)) is follows
     copy_given missing rest is follows = copy_stopped missing _ rest is refl refl follows
@@ -419,7 +492,7 @@ module _ (input output : List ℕ) (max : ℕ) (more : Exit) (made_of : List ℕ
 -- what the prover made is accepted
 proved_is : ProvedAccepted → (under : PolicyView) (b out : List ℕ) → IsPolicy under → IsBytes b
     → (r : Result (List ℕ) ProveFlaw) → proved_container under b ≡ r → container_proved r
-    ≡ gives out → ProvesTo under b out
+    ≡ gives out → ProvesExactly under b out
 proved_is proved_accepted under b out kept held (Ok bytes) is e =
     let same : Some bytes ≡ Some out = ap value_at e in
     let at : proved_container under b ≡ Ok out =
@@ -429,10 +502,19 @@ proved_is proved_accepted under b out kept held (Err fault) is e =
     absurd (true≢false (ap is_stop e))
 
 proved_of_stage : ProvedAccepted → (under : PolicyView) (b out : List ℕ) → IsPolicy under
-    → IsBytes b → proved_in under b ≡ gives out → ProvesTo under b out
+    → IsBytes b → proved_in under b ≡ gives out → ProvesExactly under b out
 unfolding proved_in
 proved_of_stage proved_accepted under b out kept held e =
     proved_is proved_accepted under b out kept held (proved_container under b) refl e
+
+-- why nothing is proved
+unproved_is : (b : List ℕ) (exit : Exit) (r : Result (List ℕ) ProveFlaw) → container_proved r ≡ stops exit → IsUnproved b exit
+unproved_is b exit (Ok bytes) e = absurd (true≢false (sym (ap is_stop e)))
+unproved_is b exit (Err flaw) e = (flaw, sym (ap exit_at e))
+
+pub proved_told : (under : PolicyView) (b : List ℕ) (exit : Exit) → StopsAt (proved_in under) b exit → IsUnproved b exit
+unfolding proved_in
+proved_told under b exit e = unproved_is b exit (proved_container under b) e
 
 -- ---- demo
 
@@ -477,6 +559,7 @@ demo_by n events exit (reads name max more on) is none silent ends = absurd (tru
 -- what containers are upgraded to, by the laws
 pub record UpgradesContainers : Type 0 where
   pub exactly : UpgradedExactly
+  pub refused : UpgradeRefused
   pub accepted : UpgradedAccepted
 
 upgraded_is : UpgradesContainers → (b out : List ℕ) → IsBytes b
@@ -498,6 +581,16 @@ upgraded_of_stage : UpgradesContainers → (b out : List ℕ) → IsBytes b
 unfolding upgraded_in
 upgraded_of_stage laws b out held e = upgraded_is laws b out held (upgraded_container b) refl e
 
+-- why nothing is upgraded
+not_upgraded_is : UpgradesContainers → (b : List ℕ) (exit : Exit) → IsBytes b → (r : Result (List ℕ) UpgradeFlaw) → upgraded_container b ≡ r
+    → container_upgraded r ≡ stops exit → IsNoUpgrade b exit
+not_upgraded_is laws b exit held (Ok bytes) is e = absurd (true≢false (sym (ap is_stop e)))
+not_upgraded_is laws b exit held (Err flaw) is e = (flaw, (laws.refused b flaw held).0 is, sym (ap exit_at e))
+
+not_upgraded_of : UpgradesContainers → (b : List ℕ) (exit : Exit) → IsBytes b → upgraded_in b ≡ stops exit → IsNoUpgrade b exit
+unfolding upgraded_in
+not_upgraded_of laws b exit held e = not_upgraded_is laws b exit held (upgraded_container b) refl e
+
 -- ---- by what the arguments are
 
 -- `demo`, whose policy was looked up
@@ -514,95 +607,91 @@ demo_shows n events exit (Some under) is e =
     (asks_nothing (demo_effect under n) (demo_ends under n) (demo-silent _ _) events exit e)
 
 -- a command whose policy was looked up
-under_named : (Did : PolicyView → Type 0) (next : PolicyView → Stage Effect) (events : List Event)
-    (exit : Exit)
-    → ((under : PolicyView) → IsPolicy under → Ended (next under) events exit → Did under)
-    → (p : Option PolicyView) → IfSome p IsPolicy → Ended (policy_found p >>= next) events exit
-    → UnderNamed p Did events exit
-under_named Did next events exit each None kept e =
-    ended_at_once (refused unknown_policy_line) events exit e
-under_named Did next events exit each (Some under) kept e = each under kept e
+under_named : (May : PolicyView → List Event → Exit → Type 0) (next : PolicyView → Stage Effect) (events : List Event) (exit : Exit)
+    → ((under : PolicyView) → IsPolicy under → Ended (next under) events exit → May under events exit)
+    → (p : Option PolicyView) → IfSome p IsPolicy → Ended (policy_found p >>= next) events exit → Under p May events exit
+under_named May next events exit each None kept e = ended_at_once (refused unknown_policy_line) events exit e
+under_named May next events exit each (Some under) kept e = each under kept e
 
-module _
-    (accepted_first : AcceptedFirst)
-    (proved_accepted : ProvedAccepted)
-    (reads_programs : ReadsPrograms)
-    (compiles_programs : CompilesPrograms)
-    (policies : ReadsPolicies)
-    (upgrades : UpgradesContainers) where
-  does : (invocation : Invocation) (events : List Event) (exit : Exit) (f g : FilesState) → Happens events f g → Ended (stage_of invocation) events exit
-      → Does invocation events exit
+-- what holds by the laws of the crates below
+pub record CommandLaws : Type 0 where
+  pub gate : GateLaws
+  pub proved : ProvedAccepted
+  pub programs : ReadsPrograms
+  pub compiled : CompilesPrograms
+  pub policies : ReadsPolicies
+  pub upgrades : UpgradesContainers
+  pub packet_files : ReadsPackets
+  pub scripts : ReadsScripts
+
+module _ (laws : CommandLaws) where
+  pub does : (invocation : Invocation) (events : List Event) (exit : Exit) (f g : FilesState) → Happens events f g → Ended (stage_of invocation) events exit
+      → MayDo invocation events exit
   unfolding asm_command prove_command check_command run_command ref_command demo_command upgrade_command host_command script_of bpf_command policy_from assembled_of proved_of upgraded_of accepted_of accepted_code_of code_of compiled_of accepted_in
   does (asm policy input output version bound) events exit f g happened e =
       under_named
       (λ under. Makes input output MAX_SOURCE (AssemblesTo version bound under)
-      (StopsWith input (refused source_too_long_line) (assembled_in version bound under)) events exit)
+      (ToldOf (StopsAt (assembled_in version bound under)) input source_too_long_line))
       (λ under. reads input MAX_SOURCE (refused source_too_long_line)
       (λ b. assembled_in version bound under b >>= λ out. writing output out)) events exit
       (λ under kept e. makes input output MAX_SOURCE (refused source_too_long_line)
       (assembled_in version bound under) (assembled_in-ends version bound under) (AssemblesTo version bound under)
-      (StopsWith input (refused source_too_long_line) (assembled_in version bound under)) events exit
-      (λ b out rest split is. is) (λ given exit' rest split why. why) e) (policy_of policy)
-      (policy_of-is policy) e
+      (ToldOf (StopsAt (assembled_in version bound under)) input source_too_long_line) events exit
+      (λ b out rest split is. is)
+      (λ given exit' rest split why. stops_told input source_too_long_line (assembled_in version bound under) given exit' why) e)
+      (policy_of policy) (policy_of-is policy) e
   does (prove policy input output) events exit f g happened e =
       under_named
-      (λ under. Makes input output MAX_FILE (ProvesTo under)
-      (StopsWith input (refused container_too_long_line) (proved_in under)) events exit)
+      (λ under. Makes input output MAX_FILE (ProvesExactly under) (ToldOf (StopsAt (proved_in under)) input container_too_long_line))
       (λ under. reads input MAX_FILE (refused container_too_long_line)
       (λ b. proved_in under b >>= λ out. writing output out)) events exit
       (λ under kept e. makes input output MAX_FILE (refused container_too_long_line)
-      (proved_in under) (proved_in-ends under) (ProvesTo under)
-      (StopsWith input (refused container_too_long_line) (proved_in under)) events exit
-      (λ b out rest split is. proved_of_stage proved_accepted under b out kept
+      (proved_in under) (proved_in-ends under) (ProvesExactly under)
+      (ToldOf (StopsAt (proved_in under)) input container_too_long_line) events exit
+      (λ b out rest split is. proved_of_stage laws.proved under b out kept
       (given_bytes input MAX_FILE (whole b) rest events f g split happened) is)
-      (λ given exit' rest split why. why) e) (policy_of policy) (policy_of-is policy) e
+      (λ given exit' rest split why. stops_told input container_too_long_line (proved_in under) given exit' why) e)
+      (policy_of policy) (policy_of-is policy) e
   does (check (named policy) file) events exit f g happened e =
-      under_named (λ under. Checks under file events exit)
+      under_named (λ under. Checks IsFirstVerdict under file)
       (λ under. reads file MAX_FILE (refused container_too_long_line)
       (λ b. accepted_in under b >>= λ accepted. printing accepted_line)) events exit
-      (λ under kept e. checks accepted_first under file events exit f g happened e)
+      (λ under kept e. checks laws.gate under file events exit f g happened e)
       (policy_of policy) (policy_of-is policy) e
   does (check (from_file name) file) events exit f g happened e =
-      checks_from accepted_first policies name file events exit f g happened e
+      checks_from laws.gate laws.policies name file events exit f g happened e
   does (run policy file packets steps) events exit f g happened e =
-      under_named (λ under. RunsCode under file packets steps events exit)
+      under_named (λ under. RunsCode IsFirstVerdict under file packets steps)
       (λ under. reads file MAX_FILE (refused container_too_long_line)
-      (run_by accepted_first under file packets steps)) events exit
-      (λ under kept e. runs_code accepted_first under file packets steps events exit f g happened e)
+      (run_by laws.gate laws.packet_files under file packets steps)) events exit
+      (λ under kept e. runs_code laws.gate laws.packet_files under file packets steps events exit f g happened e)
       (policy_of policy) (policy_of-is policy) e
   does (ref policy file packets steps) events exit f g happened e =
-      under_named (λ under. Refs under file packets steps events exit)
+      under_named (λ under. Refs under file packets steps)
       (λ under. reads file MAX_FILE (refused container_too_long_line)
-      (ref_by under file packets steps)) events exit
-      (λ under kept e. refs under file packets steps events exit e) (policy_of policy)
+      (ref_by laws.packet_files under file packets steps)) events exit
+      (λ under kept e. refs laws.packet_files under file packets steps events exit f g happened e) (policy_of policy)
       (policy_of-is policy) e
   does (demo n) events exit f g happened e =
       demo_shows n events exit (policy_of demo_policy) refl e
   does (upgrade input output) events exit f g happened e =
       makes input output MAX_FILE (refused container_too_long_line) upgraded_in upgraded_in-ends
-      UpgradesTo (StopsWith input (refused container_too_long_line) upgraded_in) events exit
-      (λ b out rest split is. upgraded_of_stage upgrades b out
+      UpgradesTo (ToldOf IsNoUpgrade input container_too_long_line) events exit
+      (λ b out rest split is. upgraded_of_stage laws.upgrades b out
       (given_bytes input MAX_FILE (whole b) rest events f g split happened) is)
-      (λ given exit' rest split why. why) e
-  does (host script) events exit f g happened e = hosts accepted_first script events exit f g happened e
+      (λ given exit' rest split why. told_of_stage IsNoUpgrade input container_too_long_line upgraded_in given exit'
+      (λ b whole_is at. not_upgraded_of laws.upgrades b exit'
+      (given_bytes input MAX_FILE (whole b) rest events f g
+      (split ∙ ap (λ x. was_read input MAX_FILE x ∷ rest) whole_is) happened) at) why) e
+  does (host script) events exit f g happened e = hosts laws.gate laws.scripts script events exit f g happened e
   does (bpf input output) events exit f g happened e =
-      makes input output MAX_PROGRAM_FILE (refused bpf_too_long_line) compiled_in compiled_in-ends CompilesTo (IsToldOf input) events exit
-      (λ b out rest split is. compiles reads_programs compiles_programs b out (given_bytes input MAX_PROGRAM_FILE (whole b) rest events f g split happened) is)
-      (λ given exit' rest split why. told reads_programs compiles_programs input given exit' (given_bytes input MAX_PROGRAM_FILE given rest events f g split happened) why) e
-
-  pub means : (o : Option Invocation) (e e' : List Event) (f g : FilesState) (s t : SinkState) (status : ℕ) → Runs texts (task_of_command o).stage e e' f g s t status
-      → MeansIfCommand o e e' s t status
-  means (Some invocation) e e' f g s t status r = by r.ends
-    where
-      by : EndsRun texts (stage_of invocation) r.events s t status → Means invocation e e' s t status
-      by (decided exit comes prints) =
-          came r.events exit r.logged (does invocation r.events exit f g r.happened (ended_of (stage_of invocation) r.events exit comes)) prints
-      by (ran_out later follows clean same status_is) = out_of_memory r.events later r.logged follows clean same status_is
-  means None e e' f g s t status r = r.logged ∙ ap (λ es. e ++ es) (by r.ends) ∙ append-nil e
-    where
-      by : EndsRun texts (task_of_command None).stage r.events s t status → r.events ≡ []
-      by (decided exit comes prints) = (ended_at_once _ r.events exit (ended_of (task_of_command None).stage r.events exit comes)).0
-      by (ran_out later follows clean same status_is) = (no_read (task_of_command None).stage refl r.events later follows).0
+      makes input output MAX_PROGRAM_FILE (refused bpf_too_long_line) compiled_in compiled_in-ends CompilesExactly
+      (ToldOf IsNoProgram input bpf_too_long_line) events exit
+      (λ b out rest split is. compiles laws.programs laws.compiled b out (given_bytes input MAX_PROGRAM_FILE (whole b) rest events f g split happened) is)
+      (λ given exit' rest split why. told_of_stage IsNoProgram input bpf_too_long_line compiled_in given exit'
+      (λ b whole_is at. told laws.programs laws.compiled b exit'
+      (given_bytes input MAX_PROGRAM_FILE (whole b) rest events f g
+      (split ∙ ap (λ x. was_read input MAX_PROGRAM_FILE x ∷ rest) whole_is) happened) at) why) e
 
 -- ---- what accepted code is worth
 
@@ -617,7 +706,8 @@ StartsMeet =
     (policy : PolicyView) (packet : List ℕ) (setup : StartView) → IsPolicy policy
     → length packet ≤ MAX_PACKET → start_of policy packet ≡ Some setup → StartMeets setup policy.pre
 
-pub runs_safely : AcceptedSafe → StartsState → StartsMeet → ((code : List Insn) (n : ℕ) (s : State) → ChangesWritable code n s) → ((code : List Insn) (n : ℕ) (s : State) → DependsOnReadable code n s)
+pub runs_safely : AcceptedSafe → StartsState → StartsMeet → ((code : List Insn) (n : ℕ) (s : State) → ChangesWritable code n s) →
+    ((code : List Insn) (n : ℕ) (s : State) → DependsOnReadable code n s)
     → AcceptedRunsSafely
 runs_safely safe state meets changes depends under bytes kept a p setup n held short is = record {
   good =
@@ -635,9 +725,11 @@ lie_between a spans inside span has =
     let i : IsInArena (base_of a) span = inside span has in
     (omega (arith, i.from), omega (arith, i.to))
 
-pub stays_in_parts : AcceptedSafe → ((code : List Insn) (n : ℕ) (s : State) → ChangesWritable code n s) → ((code : List Insn) (n : ℕ) (s : State) → DependsOnReadable code n s)
+pub stays_in_parts : AcceptedSafe → ((code : List Insn) (n : ℕ) (s : State) → ChangesWritable code n s) →
+    ((code : List Insn) (n : ℕ) (s : State) → DependsOnReadable code n s)
     → AreApart agent_part
-    → ((base size i : ℕ) (rights : Rights) → LieBetween (base + size * i) (base + size * suc i) rights.reads → LieBetween (base + size * i) (base + size * suc i) rights.writes
+    → ((base size i : ℕ) (rights : Rights) → LieBetween (base + size * i) (base + size * suc i) rights.reads → LieBetween (base + size * i)
+    (base + size * suc i) rights.writes
     → LieIn (part_from base size i) rights)
     → AgentsStayInParts
 stays_in_parts accepted_safe changes depends apart spans = record { parts = apart; stays = stays_in }

@@ -1,5 +1,5 @@
 -- What a run of `host` means.
-use Rattle.std.proofs.Common.{◌≡◌, ℕ, suc, ◌⊎◌, inl, inr, false, true≢false, List, [], ◌∷◌, ◌++◌, Option, Some, None, is_some, Result, Ok, Err, refl, sym, ap, ◌∙◌, subst, append_assoc, arith}
+use Rattle.std.proofs.Common.{◌≡◌, ℕ, suc, ◌↔◌, ◌⊎◌, inl, inr, false, true≢false, List, [], ◌∷◌, ◌++◌, Option, Some, None, is_some, Result, Ok, Err, refl, sym, ap, ◌∙◌, subst, append_assoc, arith}
 use Rattle.std.proofs.lemmas.List.{append-nil}
 use Rattle.file_port.specs.Events.{Given, whole, missing, too_long, failed, no_memory, Event, was_read, was_written, was_put}
 use Rattle.file_port.specs.Files.{FilesState}
@@ -17,11 +17,11 @@ use Rattle.agent_script.specs.declared.script.TheConstants.{MAX_SCRIPT}
 use Rattle.agent_script.specs.Names.{script_flaw_name}
 use Rattle.agent_script.specs.Statements.{LoadView}
 use Rattle.agent_script.specs.Scripts.{ScriptView, parsed_script}
+use Rattle.agent_script.specs.Texts.{SpellsScript, HasFault}
 use Rattle.agent_host.specs.Agents.{base_of}
 use Rattle.pcc_gate.specs.declared.refusal.Refusal.{Refusal}
 use Rattle.pcc_gate.specs.Accepted.{IsAccepted}
 use Rattle.pcc_gate.specs.First.{first_refusal}
-use Rattle.pcc_gate.specs.Laws.{AcceptedFirst}
 use Rattle.pcc_lines.specs.Fixed.{container_too_long_line, packets_too_long_line, script_too_long_line, unknown_policy_line}
 use Rattle.pcc_lines.specs.Refusals.{refusal_line}
 use Rattle.pcc_lines.specs.Scripts.{script_fault_line}
@@ -41,22 +41,22 @@ use Rattle.pcc_commands.specs.Stages.Hosting.{script_found, script_in, Member, u
 use Rattle.pcc_commands.specs.Commands.Host.{turn_lines}
 use Rattle.pcc_cli.specs.Headline.{agent_exit, unless_short_of, first_packet_of, packet_given, member_with, LoadsMember, no_policy, no_container, has_container, LoadsMembers, all, ended, ended_later, loaded, IsFaultTold, Hosts, no_script, not_loaded, took_turns}
 use Rattle.pcc_commands.proofs.RunLemmas.{accepted_code_of_bytes}
-use Rattle.pcc_cli.proofs.EndLemmas.{no_read, HasRead, first_read, Ended, end_at, change_at, given_bytes, verdict}
+use Rattle.pcc_cli.proofs.EndLemmas.{GateLaws, no_read, HasRead, first_read, Ended, end_at, change_at, given_bytes, verdict}
 
 -- ---- a packet file
 
 -- an agent of code with a packet
-abbrev member : PolicyView → List Insn → List ℕ → Member
+abbrev pub member : PolicyView → List Insn → List ℕ → Member
 member policy code packet = record { policy = policy; code = code; packet = packet }
 
 -- the agent of what was found, or the exit
-abbrev member_stage : PolicyView → List Insn → Result (List ℕ) Exit → Stage Member
+abbrev pub member_stage : PolicyView → List Insn → Result (List ℕ) Exit → Stage Member
 member_stage policy code (Ok packet) = gives (member policy code packet)
 member_stage policy code (Err exit) = stops exit
 
 module _ (a : ℕ) (policy : PolicyView) (code : List Insn) where
   -- the first packet of what was read as packets
-  abbrev first_stage : Result (List (List ℕ)) PacketFault → Stage Member
+  abbrev pub first_stage : Result (List (List ℕ)) PacketFault → Stage Member
   first_stage r = (packets_found r >>= first_packet a policy) >>= λ packet. gives (member policy code packet)
 
   by_start : (packet : List ℕ) (o : Option StartView) → for_agent a (unless_short packet o >>= λ p. gives (member policy code p)) ≡ member_stage policy code (unless_short_of a packet o)
@@ -68,7 +68,7 @@ module _ (a : ℕ) (policy : PolicyView) (code : List Insn) where
   by_found (Ok []) = refl
   by_found (Ok (packet ∷ packets)) = by_start packet (start_from (base_of a) policy.kind packet)
 
-  by_given : (name : List ℕ) (given : Given)
+  pub by_given : (name : List ℕ) (given : Given)
       → went_on texts name (told_of a (refused packets_too_long_line)) (λ b. for_agent a (first_stage (decoded_packets b))) given
       ≡ member_stage policy code (packet_given a policy name given)
   by_given name (whole b) = by_found (decoded_packets b)
@@ -78,7 +78,7 @@ module _ (a : ℕ) (policy : PolicyView) (code : List Insn) where
   by_given name no_memory = refl
 
   -- what a load goes on with behind its container
-  packet_reads : (name : List ℕ) → for_agent a (packet_of a policy name >>= λ packet. gives (member policy code packet))
+  pub packet_reads : (name : List ℕ) → for_agent a (packet_of a policy name >>= λ packet. gives (member policy code packet))
       ≡ reads name MAX_FILE (told_of a (refused packets_too_long_line)) (λ b. for_agent a (first_stage (decoded_packets b)))
   unfolding packet_of packets_of
   packet_reads name = refl
@@ -91,7 +91,7 @@ data AfterLoad {B : Type 0} (a : ℕ) (one : LoadView) (next : Member → Stage 
   load_went : (agent : Member) (first rest : List Event) → events ≡ first ++ rest → LoadsMember a one first (Ok agent) → Follows texts rest (next agent) later
       → AfterLoad a one next events later
 
-module _ {B : Type 0} (accepted_first : AcceptedFirst) (a : ℕ) (one : LoadView) (next : Member → Stage B) (events : List Event) (later : Stage B) (ends : is_read later ≡ false) where
+module _ {B : Type 0} (gate : GateLaws) (a : ℕ) (one : LoadView) (next : Member → Stage B) (events : List Event) (later : Stage B) (ends : is_read later ≡ false) where
   -- behind a container that isn't accepted, or wasn't read
   load_stopped : (policy : PolicyView) (given : Given) (exit : Exit) (rest : List Event)
       → policy_of one.policy ≡ Some policy → events ≡ was_read one.file MAX_FILE given ∷ rest
@@ -134,10 +134,10 @@ module _ {B : Type 0} (accepted_first : AcceptedFirst) (a : ℕ) (one : LoadView
   unfolding accepted_code_in accepted_in
   load_judged policy b rest (Some r) some held named is follows =
       load_stopped policy (whole b) (refused (refusal_line r)) rest named is
-      (no_container policy (whole b) (refused (refusal_line r)) named refl (verdict accepted_first policy b held (Some r) some) (omega arith) refl)
+      (no_container policy (whole b) (refused (refusal_line r)) named refl (verdict gate policy b held (Some r) some) (omega arith) refl)
       (subst (λ x. Follows texts rest (for_agent a (code_stage policy (stops_if_refused x >>= λ accepted. code_in policy b)) >>= next) later) some follows)
   load_judged policy b rest None none held named is follows =
-      let it : IsAccepted policy b = (accepted_first policy b held).1 none in
+      let it : IsAccepted policy b = (gate.accepted policy b held).1 none in
       load_packets policy b it rest named is
       (subst (λ s. Follows texts rest (for_agent a (code_stage policy s) >>= next) later) (accepted_code_of_bytes policy b it.contents it.code it.marks it.accepts.passes none) follows)
 
@@ -203,7 +203,7 @@ data AfterLoads {B : Type 0} (a : ℕ) (loads : List LoadView) (next : List Memb
   loads_went : (agents : List Member) (first rest : List Event) → events ≡ first ++ rest → LoadsMembers a loads first (Ok agents) → Follows texts rest (next agents) later
       → AfterLoads a loads next events later
 
-module _ {B : Type 0} (accepted_first : AcceptedFirst) where
+module _ {B : Type 0} (gate : GateLaws) where
   -- behind the first of them
   then_loads : (a : ℕ) (one : LoadView) (loads : List LoadView) (agent : Member) (next : List Member → Stage B) (events first rest : List Event) (later : Stage B) → events ≡ first ++ rest
       → LoadsMember a one first (Ok agent) → AfterLoads (suc a) loads (λ agents. next (agent ∷ agents)) rest later → AfterLoads a (one ∷ loads) next events later
@@ -228,12 +228,17 @@ module _ {B : Type 0} (accepted_first : AcceptedFirst) where
   after_loads [] a next events later ends f g happened follows = loads_went [] [] events refl all follows
   after_loads (one ∷ loads) a next events later ends f g happened follows =
       then_load a one loads next events later f g happened (λ more rest mid happens. after_loads loads (suc a) more rest later ends mid g happens)
-      (after_load accepted_first a one (λ agent. (agents_from (suc a) loads >>= λ agents. gives (agent ∷ agents)) >>= next) events later ends f g happened
+      (after_load gate a one (λ agent. (agents_from (suc a) loads >>= λ agents. gives (agent ∷ agents)) >>= next) events later ends f g happened
       (subst (λ s. Follows texts events s later) (bind-assoc (for_agent a (load_of a one)) (λ agent. agents_from (suc a) loads >>= λ agents. gives (agent ∷ agents)) next) follows))
 
 -- ---- the command
 
-module _ (accepted_first : AcceptedFirst) (name : List ℕ) where
+-- what scripts are, by the laws
+pub record ReadsScripts : Type 0 where
+  pub spelled : (text : List ℕ) (script : ScriptView) → (parsed_script text ≡ Ok script) ↔ SpellsScript text script
+  pub faulty : (text : List ℕ) (line : ℕ) (flaw : ScriptFlaw) → parsed_script text ≡ Err (line, flaw) → HasFault text line flaw
+
+module _ (gate : GateLaws) (scripts : ReadsScripts) (name : List ℕ) where
   -- what it goes on with behind its script
   abbrev turns_stage : ScriptView → Stage Effect
   turns_stage script = agents_from 0 script.loads >>= λ agents. printing (turn_lines agents 0 [] script.turns)
@@ -260,7 +265,7 @@ module _ (accepted_first : AcceptedFirst) (name : List ℕ) where
         no_script given (quiet.0 ∙ is ∙ ap (λ es. was_read name MAX_SCRIPT given ∷ es) last.0) (subst (IsFaultTold name given) (sym (quiet.1 ∙ ap end_at last.1)) told)
 
     -- its loads
-    host_loads : (text : List ℕ) (script : ScriptView) (rest : List Event) → e.asked ≡ was_read name MAX_SCRIPT (whole text) ∷ rest → parsed_script text ≡ Ok script
+    host_loads : (text : List ℕ) (script : ScriptView) (rest : List Event) → e.asked ≡ was_read name MAX_SCRIPT (whole text) ∷ rest → SpellsScript text script
         → AfterLoads 0 script.loads (λ agents. printing (turn_lines agents 0 [] script.turns)) rest e.later → Hosts name events exit
     host_loads text script rest is said (loads_ended exit' loads stop) =
         let quiet = nothing_written (ap change_at stop) in
@@ -284,9 +289,9 @@ module _ (accepted_first : AcceptedFirst) (name : List ℕ) where
     host_said : (text : List ℕ) (rest : List Event) (m n : FilesState) (r : Result ScriptView (ℕ × ScriptFlaw)) → parsed_script text ≡ r → Happens rest m n
         → e.asked ≡ was_read name MAX_SCRIPT (whole text) ∷ rest → Follows texts rest (script_found r >>= turns_stage) e.later → Hosts name events exit
     host_said text rest m n (Ok script) said happens is follows =
-        host_loads text script rest is said (after_loads accepted_first script.loads 0 (λ agents. printing (turn_lines agents 0 [] script.turns)) rest e.later e.ended m n happens follows)
+        host_loads text script rest is ((scripts.spelled text script).0 said) (after_loads gate script.loads 0 (λ agents. printing (turn_lines agents 0 [] script.turns)) rest e.later e.ended m n happens follows)
     host_said text rest m n (Err fault) said happens is follows =
-        host_stopped (whole text) (refused (script_fault_line fault.0 (script_flaw_name fault.1))) rest is follows (fault.0, fault.1, said, refl)
+        host_stopped (whole text) (refused (script_fault_line fault.0 (script_flaw_name fault.1))) rest is follows (fault.0, fault.1, scripts.faulty text fault.0 fault.1 said, refl)
 
     host_given : (given : Given) (rest : List Event) (m n : FilesState) → Happens rest m n → e.asked ≡ was_read name MAX_SCRIPT given ∷ rest
         → Follows texts rest (went_on texts name (refused script_too_long_line) script_stage given) e.later → Hosts name events exit

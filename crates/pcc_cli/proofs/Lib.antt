@@ -4,3 +4,5 @@ pub mod EndLemmas
 pub mod CheckLemmas
 pub mod HostLemmas
 pub mod HeadlineLemmas
+pub mod ClauseLemmas
+pub mod MeansLemmas

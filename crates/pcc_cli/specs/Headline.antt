@@ -1,8 +1,7 @@
--- What a run of each command means, whatever the files hold, by what it read; and what accepted
--- code is worth.
+-- What each command does, whatever the files hold: what it reads and writes, and what it prints by
+-- what it read; and what accepted code is worth.
 use Rattle.std.specs.Prelude.{◌≡◌, ℕ, suc, Bool, ◌*◌, ◌<◌, ◌≤◌, ◌↔◌, ◌⊎◌, List, [], ◌∷◌, ◌++◌, length, Option, None, Some, Result, Ok, Err}
 use Rattle.file_port.specs.Events.{Given, whole, missing, too_long, failed, no_memory, Event, was_read, was_written}
-use Rattle.file_port.specs.Sink.{SinkState}
 use Rattle.file_port.specs.declared.port.Put.{Put}
 use Rattle.alpha_words.specs.declared.insn.Insn.{Insn}
 use Rattle.alpha_cfg.specs.Isolation.{ChangesWritable, DependsOnReadable}
@@ -12,7 +11,7 @@ use Rattle.policy_set.specs.declared.kind.PolicyKind.TheVariants.{Filter}
 use Rattle.policy_set.specs.Views.{PolicyView, built_in, IsPolicy}
 use Rattle.policy_set.specs.Names.{policy_of}
 use Rattle.policy_set.specs.declared.fault.PolicyFlaw.{PolicyFlaw}
-use Rattle.policy_set.specs.PolicyText.{SpellsPolicy, policy_read}
+use Rattle.policy_set.specs.PolicyText.{SpellsPolicy, IsPolicyFlaw}
 use Rattle.reference_machine.specs.declared.layout.TheConstants.{ARENA, QUADWORDS}
 use Rattle.reference_machine.specs.Starts.{StartView, start_state}
 use Rattle.packet_store.specs.declared.reader.TheConstants.{MAX_PACKET}
@@ -20,6 +19,7 @@ use Rattle.packet_store.specs.declared.fault.PacketFault.{PacketFault}
 use Rattle.packet_store.specs.declared.results.PacketResult.{PacketResult}
 use Rattle.packet_store.specs.declared.results.PacketResult.TheVariants.{Short, Ran}
 use Rattle.packet_store.specs.PacketDecoding.{decoded_packets}
+use Rattle.packet_store.specs.Packets.{AreShort, packets_encoding, IsFirstFault}
 use Rattle.packet_store.specs.PolicyStarts.{start_from, start_of}
 use Rattle.packet_store.specs.Results.{packet_result}
 use Rattle.term_table.specs.Bytes.{IsBytes}
@@ -27,38 +27,43 @@ use Rattle.vcgen.specs.Safety.{IsGoodEnd, IsReturn}
 use Rattle.pcc_gate.specs.declared.refusal.Refusal.{Refusal}
 use Rattle.pcc_gate.specs.Accepted.{IsAccepted}
 use Rattle.pcc_gate.specs.WrittenOut.{IsAcceptedWrittenOut}
-use Rattle.pcc_gate.specs.First.{first_refusal}
+use Rattle.pcc_gate.specs.Refusals.{IsFirstRefusal}
 use Rattle.bpf_words.specs.declared.insn.TheConstants.{LOADABLE}
 use Rattle.bpf_words.specs.declared.insn.Bpf.{Bpf}
 use Rattle.bpf_words.specs.declared.fault.BpfFlaw.{BpfFlaw}
-use Rattle.bpf_words.specs.Reading.{program_of}
+use Rattle.bpf_words.specs.Flaws.{MeansFlaw}
+use Rattle.bpf_words.specs.Programs.{IsProgram}
+use Rattle.bpf_words.specs.Reading.{HasInsns}
 use Rattle.bpf_words.specs.Values.{bpf_value}
 use Rattle.bpf_code.specs.Blocks.{nonzero_flag}
 use Rattle.bpf_compile.specs.Compilation.{compiled_container}
-use Rattle.pcc_words.specs.Invocations.{named, from_file, Invocation, asm, prove, check, run, ref, demo, upgrade, host, bpf}
+use Rattle.bounds_prover.specs.declared.fault.ProveFlaw.{ProveFlaw}
+use Rattle.bounds_prover.specs.Proving.{proved_container}
+use Rattle.gate_upgrade.specs.declared.fault.UpgradeFlaw.{UpgradeFlaw}
 use Rattle.gate_upgrade.specs.Upgrades.{IsUpgrade}
+use Rattle.gate_upgrade.specs.UpgradeTests.{IsUpgradeFlaw}
 use Rattle.alpha_turns.specs.Parts.{AreApart, LieIn, part_from}
 use Rattle.agent_script.specs.declared.fault.ScriptFlaw.{ScriptFlaw}
 use Rattle.agent_script.specs.declared.script.TheConstants.{MAX_SCRIPT}
 use Rattle.agent_script.specs.Names.{script_flaw_name}
 use Rattle.agent_script.specs.Statements.{LoadView}
-use Rattle.agent_script.specs.Scripts.{ScriptView, parsed_script}
+use Rattle.agent_script.specs.Scripts.{ScriptView}
+use Rattle.agent_script.specs.Texts.{SpellsScript, HasFault}
 use Rattle.agent_host.specs.declared.host.TheConstants.{MAX_AGENTS}
 use Rattle.agent_host.specs.Agents.{base_of}
 use Rattle.pcc_lines.specs.Agents.{agent_line, no_packet_line, short_line}
 use Rattle.pcc_lines.specs.Scripts.{script_fault_line}
 use Rattle.pcc_lines.specs.Bpf.{bpf_flaw_line}
-use Rattle.pcc_lines.specs.Fixed.{accepted_line, bpf_too_long_line, unknown_policy_line, container_too_long_line, packets_too_long_line, policy_too_long_line, script_too_long_line, source_too_long_line}
+use Rattle.pcc_lines.specs.Fixed.{accepted_line, unknown_policy_line, container_too_long_line, packets_too_long_line, policy_too_long_line, script_too_long_line}
+use Rattle.pcc_lines.specs.Named.{missing_line, read_fault_line}
 use Rattle.pcc_lines.specs.PacketFaults.{packet_fault_line}
 use Rattle.pcc_lines.specs.Refusals.{refusal_line}
 use Rattle.pcc_lines.specs.Results.{result_lines}
 use Rattle.pcc_lines.specs.Sources.{written_line}
 use Rattle.pcc_stages.specs.Exits.{Exit}
 use Rattle.pcc_stages.specs.Requests.{missing_exit, read_fault_exit, no_memory_exit}
-use Rattle.pcc_stages.specs.Runs.{Effect, done_exit, written_exit, Prints, NoneFailed}
-use Rattle.asm_text.specs.declared.limits.TheConstants.{MAX_SOURCE}
-use Rattle.bounds_prover.specs.Proving.{proved_container}
-use Rattle.pcc_stages.specs.Stage.{Stage, stops, gives, went_on, Follows}
+use Rattle.pcc_stages.specs.Runs.{done_exit, written_exit}
+use Rattle.pcc_stages.specs.Stage.{Stage, stops, gives}
 use Rattle.pcc_stages.specs.Texts.{texts}
 use Rattle.pcc_stages.specs.Stages.Common.{refused, printing}
 use Rattle.pcc_stages.specs.Stages.Containers.{code_in}
@@ -66,98 +71,115 @@ use Rattle.pcc_stages.specs.Stages.Policies.{no_policy_spelled}
 use Rattle.pcc_stages.specs.declared.files.TheConstants.{MAX_FILE, MAX_POLICY_FILE}
 use Rattle.pcc_commands.specs.Stages.Assembling.{assembled_in}
 use Rattle.pcc_commands.specs.Stages.Hosting.{Member, told_of}
-use Rattle.pcc_commands.specs.Stages.Proving.{proved_in}
-use Rattle.pcc_commands.specs.Stages.Upgrading.{upgraded_in}
+use Rattle.pcc_commands.specs.Stages.Proving.{no_container}
+use Rattle.pcc_commands.specs.Stages.Upgrading.{not_upgraded}
 use Rattle.pcc_commands.specs.Commands.Demo.{demo_command}
 use Rattle.pcc_commands.specs.Commands.Host.{turn_lines}
-use Rattle.pcc_commands.specs.Tasks.{stage_of}
-use Rattle.pcc_commands.specs.declared.stages.TheConstants.{MAX_PROGRAM_FILE}
 
--- ---- the verdict on what was read
+-- ---- what is printed of what a read gave
 
--- The bytes are accepted under the policy exactly where this is the exit of what is accepted, and that
--- is so exactly where they are with every lemma written out; else it is the line of the first clause
--- that fails.
+-- What is printed of what a read of the file of a name gave: of its bytes what Tells says, of a file
+-- that has too many the line, else that there is none, or that the read failed.
+abbrev pub ToldOf : (List ℕ → Exit → Type 0) → List ℕ → List ℕ → Given → Exit → Type 0
+ToldOf Tells name line (whole bytes) exit = Tells bytes exit
+ToldOf Tells name line missing exit = exit ≡ record { status = 3; text = missing_line name }
+ToldOf Tells name line too_long exit = exit ≡ refused line
+ToldOf Tells name line failed exit = exit ≡ record { status = 3; text = read_fault_line name }
+ToldOf Tells name line no_memory exit = exit ≡ no_memory_exit
+
+-- The verdict on bytes: `accepted` exactly where they are accepted under the policy, and that is so
+-- exactly where they are with every lemma written out; else the line of a refusal.
 pub record IsVerdict (policy : PolicyView) (bytes : List ℕ) (exit : Exit) : Type 0 where
   pub accepted : (exit ≡ done_exit accepted_line) ↔ IsAccepted policy bytes
   pub written_out : (exit ≡ done_exit accepted_line) ↔ IsAcceptedWrittenOut policy bytes
-  pub refused : (r : Refusal) → first_refusal policy bytes ≡ Some r → exit ≡ refused (refusal_line r)
-  pub judged : IsAccepted policy bytes ⊎ ((r : Refusal) × (first_refusal policy bytes ≡ Some r))
+  pub judged : IsAccepted policy bytes ⊎ ((r : Refusal) × (exit ≡ refused (refusal_line r)))
 
--- what `check` prints of what its read of FILE gave
-abbrev pub IsJudged : PolicyView → List ℕ → Given → Exit → Type 0
-IsJudged policy file (whole bytes) exit = IsVerdict policy bytes exit
-IsJudged policy file missing exit = exit ≡ missing_exit texts file
-IsJudged policy file too_long exit = exit ≡ refused container_too_long_line
-IsJudged policy file failed exit = exit ≡ read_fault_exit texts file
-IsJudged policy file no_memory exit = exit ≡ no_memory_exit
+-- the same, and the refusal is that of the first clause that fails
+pub record IsFirstVerdict (policy : PolicyView) (bytes : List ℕ) (exit : Exit) : Type 0 where
+  pub verdict : IsVerdict policy bytes exit
+  pub refused : (r : Refusal) → IsFirstRefusal policy bytes r → exit ≡ refused (refusal_line r)
+  pub judged : IsAccepted policy bytes ⊎ ((r : Refusal) × IsFirstRefusal policy bytes r)
 
--- what is printed of the packets that were read, by the machine that tests every access, or of a packet file that has none
-abbrev pub lines_exit : PolicyView → List Insn → ℕ → Result (List (List ℕ)) PacketFault → Exit
-lines_exit policy code steps (Ok packets) =
-    done_exit (result_lines policy.kind (packet_result policy code steps) 0 packets)
-lines_exit policy code steps (Err fault) = refused (packet_fault_line fault)
+-- a verdict on bytes under a policy, by an exit
+abbrev pub Verdict : Type 1
+Verdict = PolicyView → List ℕ → Exit → Type 0
 
--- what is printed of code, by what the read of PACKETS gave
-abbrev pub run_exit : PolicyView → List Insn → ℕ → List ℕ → Given → Exit
-run_exit policy code steps packets (whole bytes) = lines_exit policy code steps (decoded_packets bytes)
-run_exit policy code steps packets missing = missing_exit texts packets
-run_exit policy code steps packets too_long = refused packets_too_long_line
-run_exit policy code steps packets failed = read_fault_exit texts packets
-run_exit policy code steps packets no_memory = no_memory_exit
+-- what `check` prints of what its read of FILE gave, where this is the verdict on its bytes
+abbrev pub IsJudged : Verdict → PolicyView → List ℕ → Given → Exit → Type 0
+IsJudged Judges policy file = ToldOf (Judges policy) file container_too_long_line
 
--- ---- what a run did, by its events and its exit
+-- What is printed of bytes as packets, by the machine that tests every access: a line for each of
+-- the packets, or the first fault of a file that has none.
+pub data IsRunOn (policy : PolicyView) (code : List Insn) (steps : ℕ) (bytes : List ℕ) (exit : Exit)
+    : Type 0 where
+  on_packets : (packets : List (List ℕ)) → AreShort packets → bytes ≡ packets_encoding packets
+      → exit ≡ done_exit (result_lines policy.kind (packet_result policy code steps) 0 packets)
+      → IsRunOn policy code steps bytes exit
+  no_packets : (fault : PacketFault) → IsFirstFault bytes fault
+      → exit ≡ refused (packet_fault_line fault) → IsRunOn policy code steps bytes exit
+
+-- what `run` and `ref` print of code, by what the read of PACKETS gave
+abbrev pub IsRunBy : PolicyView → List Insn → ℕ → List ℕ → Given → Exit → Type 0
+IsRunBy policy code steps packets =
+    ToldOf (IsRunOn policy code steps) packets packets_too_long_line
+
+-- ---- what a command did, by its events and its exit
 
 -- `check`: one read, of FILE, and the verdict on what it gave.
-pub record Checks (policy : PolicyView) (file : List ℕ) (events : List Event) (exit : Exit) : Type 0
-  where
-    pub given : Given
-    pub one_read : events ≡ was_read file MAX_FILE given ∷ []
-    pub judged : IsJudged policy file given exit
+pub record Checks (Judges : Verdict) (policy : PolicyView) (file : List ℕ) (events : List Event)
+    (exit : Exit) : Type 0 where
+  pub given : Given
+  pub one_read : events ≡ was_read file MAX_FILE given ∷ []
+  pub judged : IsJudged Judges policy file given exit
 
 -- what `check @NAME` prints of what its read of NAME gave, where that spells no policy
 abbrev pub IsNoPolicy : List ℕ → Given → Exit → Type 0
-IsNoPolicy name (whole text) exit =
-    (flaw : PolicyFlaw) × (policy_read text ≡ Err flaw) × (exit ≡ no_policy_spelled flaw)
-IsNoPolicy name missing exit = exit ≡ missing_exit texts name
-IsNoPolicy name too_long exit = exit ≡ refused policy_too_long_line
-IsNoPolicy name failed exit = exit ≡ read_fault_exit texts name
-IsNoPolicy name no_memory exit = exit ≡ no_memory_exit
+IsNoPolicy name =
+    ToldOf
+    (λ text exit. (flaw : PolicyFlaw) × IsPolicyFlaw text flaw × (exit ≡ no_policy_spelled flaw))
+    name policy_too_long_line
 
 -- `check @NAME`: one read, of NAME, which spells no policy, and what is wrong with it; or it spells
 -- one, which keeps what each policy does, FILE is read behind it, and the verdict is that of this
 -- policy.
-pub data ChecksFrom (name file : List ℕ) (events : List Event) (exit : Exit) : Type 0 where
+pub data ChecksFrom (Judges : Verdict) (name file : List ℕ) (events : List Event) (exit : Exit)
+    : Type 0 where
   without_policy : (given : Given) → events ≡ was_read name MAX_POLICY_FILE given ∷ []
-      → IsNoPolicy name given exit → ChecksFrom name file events exit
+      → IsNoPolicy name given exit → ChecksFrom Judges name file events exit
   with_policy : (text : List ℕ) (policy : PolicyView) (given : Given) → SpellsPolicy text policy
       → IsPolicy policy
       → events ≡ was_read name MAX_POLICY_FILE (whole text) ∷ was_read file MAX_FILE given ∷ []
-      → IsJudged policy file given exit → ChecksFrom name file events exit
+      → IsJudged Judges policy file given exit → ChecksFrom Judges name file events exit
 
--- what is told of what a read gave, where a stage goes on with the bytes: it stops with this exit, or there are none
-abbrev pub StopsWith : {A : Type 0} → List ℕ → Exit → (List ℕ → Stage A) → Given → Exit → Type 0
-StopsWith name too_long_exit stage given exit = went_on texts name too_long_exit stage given ≡ stops exit
+-- what is printed of bytes of which the stage makes nothing
+abbrev pub StopsAt : {A : Type 0} → (List ℕ → Stage A) → List ℕ → Exit → Type 0
+StopsAt stage bytes exit = stage bytes ≡ stops exit
 
--- `run`: one read, of FILE, which is not accepted, and what `check` prints of it, which isn't done; or it is accepted, PACKETS is read
--- behind it, and the lines are those of the machine that tests every access, of the code that was accepted.
-pub data RunsCode (policy : PolicyView) (file packets : List ℕ) (steps : ℕ) (events : List Event)
-    (exit : Exit) : Type 0 where
-  not_accepted : (given : Given) → events ≡ was_read file MAX_FILE given ∷ [] → IsJudged policy file given exit → 0 < exit.status
-      → RunsCode policy file packets steps events exit
+-- `run`: one read, of FILE, which is not accepted, and what `check` prints of it, which isn't done;
+-- or it is accepted, PACKETS is read behind it, and the lines are those of the machine that tests
+-- every access, of the code that was accepted.
+pub data RunsCode (Judges : Verdict) (policy : PolicyView) (file packets : List ℕ) (steps : ℕ)
+    (events : List Event) (exit : Exit) : Type 0 where
+  not_accepted : (given : Given) → events ≡ was_read file MAX_FILE given ∷ []
+      → IsJudged Judges policy file given exit → 0 < exit.status
+      → RunsCode Judges policy file packets steps events exit
   accepted : (bytes : List ℕ) (a : IsAccepted policy bytes) (given : Given)
-      → events ≡ was_read file MAX_FILE (whole bytes) ∷ was_read packets MAX_FILE given ∷ [] → exit ≡ run_exit policy a.code steps packets given
-      → RunsCode policy file packets steps events exit
+      → events ≡ was_read file MAX_FILE (whole bytes) ∷ was_read packets MAX_FILE given ∷ []
+      → IsRunBy policy a.code steps packets given exit
+      → RunsCode Judges policy file packets steps events exit
 
--- `ref`: one read, of FILE, and the exit that tells why there is no code for the policy in what it gave; or PACKETS is read behind it,
--- and the lines are those of the machine that tests every access, of the code in the bytes, which of accepted ones is what was accepted.
+-- `ref`: one read, of FILE, and the exit that tells why there is no code for the policy in what it
+-- gave; or PACKETS is read behind it, and the lines are those of the machine that tests every
+-- access, of the code in the bytes, which of accepted ones is what was accepted.
 pub data Refs (policy : PolicyView) (file packets : List ℕ) (steps : ℕ) (events : List Event)
     (exit : Exit) : Type 0 where
   no_code : (given : Given) → events ≡ was_read file MAX_FILE given ∷ []
-      → StopsWith file (refused container_too_long_line) (code_in policy) given exit → Refs policy file packets steps events exit
+      → ToldOf (StopsAt (code_in policy)) file container_too_long_line given exit
+      → Refs policy file packets steps events exit
   ran : (bytes : List ℕ) (code : List Insn) (given : Given)
-      → events ≡ was_read file MAX_FILE (whole bytes) ∷ was_read packets MAX_FILE given ∷ [] → code_in policy bytes ≡ gives code
-      → exit ≡ run_exit policy code steps packets given → ((a : IsAccepted policy bytes) → code ≡ a.code)
+      → events ≡ was_read file MAX_FILE (whole bytes) ∷ was_read packets MAX_FILE given ∷ []
+      → code_in policy bytes ≡ gives code → IsRunBy policy code steps packets given exit
+      → ((a : IsAccepted policy bytes) → code ≡ a.code)
       → Refs policy file packets steps events exit
 
 -- `demo`: no file is read or written, and the lines are those of its runs, or the one at which its definition stops.
@@ -177,8 +199,12 @@ pub data Makes (input output : List ℕ) (max : ℕ) (IsMade : List ℕ → List
 abbrev pub AssemblesTo : ℕ → Option ℕ → PolicyView → List ℕ → List ℕ → Type 0
 AssemblesTo version bound policy text out = assembled_in version bound policy text ≡ gives out
 
--- `prove` makes of a container one that is accepted under the policy
-pub record ProvesTo (policy : PolicyView) (bytes out : List ℕ) : Type 0 where
+-- `prove` makes nothing of bytes that have a flaw, and prints one
+abbrev pub IsUnproved : List ℕ → Exit → Type 0
+IsUnproved bytes exit = (flaw : ProveFlaw) × (exit ≡ no_container flaw)
+
+-- what `prove` makes is accepted, and it is what the class of proofs that it searches has
+pub record ProvesExactly (policy : PolicyView) (bytes out : List ℕ) : Type 0 where
   pub proved : proved_container policy bytes ≡ Ok out
   pub accepted : IsAccepted policy out
 
@@ -188,6 +214,11 @@ pub record UpgradesTo (bytes out : List ℕ) : Type 0 where
   pub upgrade : IsUpgrade bytes out
   pub accepted : (policy : PolicyView) → IsPolicy policy → IsAccepted policy bytes
       → IsAccepted policy out
+
+-- `upgrade` makes nothing of bytes that have a flaw, and prints the first one
+abbrev pub IsNoUpgrade : List ℕ → Exit → Type 0
+IsNoUpgrade bytes exit =
+    (flaw : UpgradeFlaw) × IsUpgradeFlaw bytes flaw × (exit ≡ not_upgraded flaw)
 
 -- the most steps of a run of what a program is compiled to; each of at most forty instructions takes twenty
 abbrev pub bpf_steps : ℕ
@@ -200,21 +231,24 @@ ComesToFlags program code =
     → packet_result (built_in Filter) code bpf_steps packet
     ≡ Ran (Returned (nonzero_flag (bpf_value program packet))) 0
 
--- `bpf` makes of a program its container, which is accepted under `filter`, and whatever code that is, packets come to the flags of the program's values
+-- `bpf` makes of a program a container that is accepted under `filter`, and whatever code that is,
+-- packets come to the flags of the program's values
 pub record CompilesTo (bytes out : List ℕ) : Type 0 where
   pub program : List Bpf
-  pub reads : program_of bytes ≡ Ok program
-  pub compiled : compiled_container program ≡ Ok out
+  pub insns : HasInsns bytes program
+  pub lawful : IsProgram program
   pub accepted : IsAccepted (built_in Filter) out
   pub flags : (a : IsAccepted (built_in Filter) out) → ComesToFlags program a.code
 
--- what `bpf` prints of what its read of IN gave, where it compiles nothing: the bytes are no program, and the line is that of the first flaw
-abbrev pub IsToldOf : List ℕ → Given → Exit → Type 0
-IsToldOf input (whole bytes) exit = (flaw : BpfFlaw) × (program_of bytes ≡ Err flaw) × (exit ≡ refused (bpf_flaw_line flaw))
-IsToldOf input missing exit = exit ≡ missing_exit texts input
-IsToldOf input too_long exit = exit ≡ refused bpf_too_long_line
-IsToldOf input failed exit = exit ≡ read_fault_exit texts input
-IsToldOf input no_memory exit = exit ≡ no_memory_exit
+-- it is the container that `prove` makes of the program's code and invariants
+pub record CompilesExactly (bytes out : List ℕ) : Type 0 where
+  pub compiles : CompilesTo bytes out
+  pub compiled : compiled_container compiles.program ≡ Ok out
+
+-- `bpf` makes nothing of bytes that are no program, and prints the first flaw
+abbrev pub IsNoProgram : List ℕ → Exit → Type 0
+IsNoProgram bytes exit =
+    (flaw : BpfFlaw) × MeansFlaw bytes flaw × (exit ≡ refused (bpf_flaw_line flaw))
 
 -- ---- `host`
 
@@ -254,7 +288,7 @@ pub data LoadsMember (a : ℕ) (one : LoadView) (events : List Event) (found : R
   no_policy : policy_of one.policy ≡ None → events ≡ [] → found ≡ Err (agent_exit a unknown_policy_line) → LoadsMember a one events found
   no_container : (policy : PolicyView) (given : Given) (exit : Exit) → policy_of one.policy
       ≡ Some policy
-      → events ≡ was_read one.file MAX_FILE given ∷ [] → IsJudged policy one.file given exit → 0 < exit.status → found ≡ Err (told_of a exit)
+      → events ≡ was_read one.file MAX_FILE given ∷ [] → IsJudged IsFirstVerdict policy one.file given exit → 0 < exit.status → found ≡ Err (told_of a exit)
       → LoadsMember a one events found
   has_container : (policy : PolicyView) (bytes : List ℕ) (it : IsAccepted policy bytes)
       (given : Given) → policy_of one.policy ≡ Some policy
@@ -273,12 +307,11 @@ pub data LoadsMembers : ℕ → List LoadView → List Event → Result (List Me
 
 -- what `host` prints of what its read of SCRIPT gave, where there is no script: the line of the first fault
 abbrev pub IsFaultTold : List ℕ → Given → Exit → Type 0
-IsFaultTold name (whole text) exit =
-    (line : ℕ) × (flaw : ScriptFlaw) × (parsed_script text ≡ Err (line, flaw)) × (exit ≡ refused (script_fault_line line (script_flaw_name flaw)))
-IsFaultTold name missing exit = exit ≡ missing_exit texts name
-IsFaultTold name too_long exit = exit ≡ refused script_too_long_line
-IsFaultTold name failed exit = exit ≡ read_fault_exit texts name
-IsFaultTold name no_memory exit = exit ≡ no_memory_exit
+IsFaultTold name =
+    ToldOf
+    (λ text exit. (line : ℕ) × (flaw : ScriptFlaw) × HasFault text line flaw
+    × (exit ≡ refused (script_fault_line line (script_flaw_name flaw))))
+    name script_too_long_line
 
 -- `host`: one read, of SCRIPT, and what is wrong with it; or then the reads of its loads in order, up to the first that ends the
 -- command; or of all, and the line of each turn says what the agent comes to alone, by the machine that tests every access, with the
@@ -286,57 +319,10 @@ IsFaultTold name no_memory exit = exit ≡ no_memory_exit
 pub data Hosts (name : List ℕ) (events : List Event) (exit : Exit) : Type 0 where
   no_script : (given : Given) → events ≡ was_read name MAX_SCRIPT given ∷ [] → IsFaultTold name given exit → Hosts name events exit
   not_loaded : (text : List ℕ) (script : ScriptView) (reads : List Event) → events ≡ was_read name MAX_SCRIPT (whole text) ∷ reads
-      → parsed_script text ≡ Ok script → LoadsMembers 0 script.loads reads (Err exit) → Hosts name events exit
+      → SpellsScript text script → LoadsMembers 0 script.loads reads (Err exit) → Hosts name events exit
   took_turns : (text : List ℕ) (script : ScriptView) (agents : List Member) (reads : List Event) → events ≡ was_read name MAX_SCRIPT (whole text) ∷ reads
-      → parsed_script text ≡ Ok script → LoadsMembers 0 script.loads reads (Ok agents) → exit ≡ done_exit (turn_lines agents 0 [] script.turns)
+      → SpellsScript text script → LoadsMembers 0 script.loads reads (Ok agents) → exit ≡ done_exit (turn_lines agents 0 [] script.turns)
       → Hosts name events exit
-
--- ---- by what the arguments are
-
--- What a command did that names a policy: there is none of the name, and it asked for nothing; or
--- there is.
-abbrev pub UnderNamed : Option PolicyView → (PolicyView → Type 0) → List Event → Exit → Type 0
-UnderNamed None Did events exit = (events ≡ []) × (exit ≡ refused unknown_policy_line)
-UnderNamed (Some under) Did events exit = Did under
-
--- what a command did that came to an exit
-abbrev pub Does : Invocation → List Event → Exit → Type 0
-Does (asm policy input output version bound) events exit =
-    UnderNamed (policy_of policy) (λ under.
-    Makes input output MAX_SOURCE (AssemblesTo version bound under)
-    (StopsWith input (refused source_too_long_line) (assembled_in version bound under)) events exit)
-    events exit
-Does (prove policy input output) events exit =
-    UnderNamed (policy_of policy) (λ under. Makes input output MAX_FILE (ProvesTo under)
-    (StopsWith input (refused container_too_long_line) (proved_in under)) events exit) events exit
-Does (check (named policy) file) events exit =
-    UnderNamed (policy_of policy) (λ under. Checks under file events exit) events exit
-Does (check (from_file name) file) events exit = ChecksFrom name file events exit
-Does (run policy file packets steps) events exit =
-    UnderNamed (policy_of policy) (λ under. RunsCode under file packets steps events exit)
-    events exit
-Does (ref policy file packets steps) events exit =
-    UnderNamed (policy_of policy) (λ under. Refs under file packets steps events exit) events exit
-Does (demo n) events exit = Demonstrates n events exit
-Does (upgrade input output) events exit =
-    Makes input output MAX_FILE UpgradesTo
-    (StopsWith input (refused container_too_long_line) upgraded_in) events exit
-Does (host script) events exit = Hosts script events exit
-Does (bpf input output) events exit =
-    Makes input output MAX_PROGRAM_FILE CompilesTo (IsToldOf input) events exit
-
--- A run of a command asked files for these events, behind a log e, and put what the exit says on the output s; or memory ran out
--- after some of the reads that the command asks for, of which none failed, and nothing was put.
-pub data Means (invocation : Invocation) (e e' : List Event) (s t : SinkState) (status : ℕ) : Type 0 where
-  came : (events : List Event) (exit : Exit) → e' ≡ e ++ events → Does invocation events exit
-      → Prints exit s t status → Means invocation e e' s t status
-  out_of_memory : (events : List Event) (later : Stage Effect) → e' ≡ e ++ events → Follows texts events (stage_of invocation) later
-      → NoneFailed events → t ≡ s → status ≡ 5 → Means invocation e e' s t status
-
--- what a run meant, if the arguments are a command
-abbrev pub MeansIfCommand : Option Invocation → List Event → List Event → SinkState → SinkState → ℕ → Type 0
-MeansIfCommand None e e' s t status = e' ≡ e
-MeansIfCommand (Some invocation) e e' s t status = Means invocation e e' s t status
 
 -- ---- what accepted code is worth
 

@@ -4,7 +4,6 @@ ghost use Rattle.std.specs.Prelude.{◌≡◌, ℕ, List, map, string_bytes};
 ghost use Rattle.file_port.specs.Events.{Event};
 ghost use Rattle.file_port.specs.Files.{FilesState};
 ghost use Rattle.file_port.specs.Sink.{SinkState};
-ghost use Rattle.pcc_words.specs.Invocations.{command_of};
 ghost use Rattle.pcc_stages.specs.Runs.{Runs, Prints};
 ghost use Rattle.pcc_stages.specs.Ends.{Ends};
 ghost use Rattle.pcc_stages.specs.Accounts.{Accounts};
@@ -12,7 +11,12 @@ ghost use Rattle.pcc_stages.specs.Texts.{texts};
 ghost use Rattle.pcc_stages.specs.Decisions.{Decides, exit_of};
 ghost use Rattle.pcc_commands.specs.Tasks.{task_of, request_of};
 ghost use Rattle.pcc_gate.specs.Safe.{AcceptedSafe};
-ghost use Rattle.pcc_cli.specs.Headline.{MeansIfCommand, AcceptedRunsSafely, AgentsStayInParts};
+ghost use Rattle.pcc_cli.specs.Clauses.{DoesCheck, DoesCheckFrom, DoesRun, DoesRef, DoesAsm};
+ghost use Rattle.pcc_cli.specs.Clauses.{DoesProve, DoesProveExactly, DoesDemo, DoesUpgrade};
+ghost use Rattle.pcc_cli.specs.Clauses.{Refuses, DoesHost, DoesCompile, DoesCompileExactly, DoesNothing};
+ghost use Rattle.pcc_words.specs.Invocations.{command_of};
+ghost use Rattle.pcc_cli.specs.Means.{KeepsClauses, MeansIfCommand};
+ghost use Rattle.pcc_cli.specs.Headline.{IsVerdict, AcceptedRunsSafely, AgentsStayInParts};
 ghost use Rattle.pcc_cli.specs.Headline.{BoundedReturns};
 ghost use Rattle.pcc_commands.specs.Reports.{report_exit};
 
@@ -72,15 +76,25 @@ fn print<S: Sink>(decision: Result<Report, Stop<'_>>, out: &mut S) -> u8
 /// the command asks for, in their order, and by no other event. The text on the output, and the
 /// status, are a function of what these reads gave.
 ///
-/// By `means`, a run of each command does what its users want to know. `check` reads FILE once, and
-/// prints `accepted` exactly if the bytes read are accepted under the policy; for a policy `@NAME`,
-/// that is the policy in the bytes that one earlier read of NAME gave. `run` runs the code that was
-/// accepted from these bytes only, and prints the lines of the machine that tests each access. What
-/// `prove` writes is accepted. What `upgrade` writes is accepted under each policy under which the
-/// container that it reads is accepted. What `bpf` writes is accepted, and its runs on a packet
-/// return 0 if the program's value is 0, else 1; if IN isn't a program, `bpf` prints the first
-/// thing that is wrong with it. `host` prints for each turn the result that its agent has alone,
-/// with its own budgets, whatever the other agents do.
+/// Each command has a clause, which says what its users want to know. In each, memory may run out
+/// behind the first of the reads that the command makes; then nothing is written or printed. If the
+/// arguments are no command, nothing is read, and the usage line is printed (`no_command`).
+///
+/// By `checks`, `check` reads FILE once. It prints `accepted` exactly if the bytes read are accepted
+/// under the policy, which is so exactly if they are with every lemma inlined; else it prints the
+/// line of a refusal. `refuses` says which: the refusal of the first check that fails.
+/// `checks_from` says the same of a policy `@NAME`: the one that one earlier read of NAME gave.
+///
+/// By `runs_code`, `run` runs the code that was accepted from the bytes read, and no other, and
+/// prints the lines of the machine that tests each access. By `refers`, `ref` prints them for the
+/// code in FILE. What `asm` writes is the source's container (`assembles`). What `prove` writes is
+/// accepted (`proves`); `proves_exactly` says which containers it proves. What `upgrade` writes is
+/// accepted under each policy under which the container that it reads is accepted (`upgrades`). By
+/// `compiles`, what `bpf` writes is accepted, and its runs on a packet return 0 if the program's
+/// value is 0, else 1; if IN isn't a program, `bpf` prints the first thing that is wrong with it.
+/// `compiles_exactly` says which container it writes. By `demonstrates`, `demo` uses no file. By
+/// `hosts`, `host` prints for each turn the result that its agent has alone, with its own budgets,
+/// whatever the other agents do.
 ///
 /// By `sound`, for every policy, also from a file, no run of accepted code from a state that
 /// satisfies the precondition is blocked, and what it returns satisfies the postcondition. By
@@ -99,7 +113,36 @@ pub fn pcc<F: Files, S: Sink>(alloc: Global, words: Vec<String>, files: &mut F, 
     ensures runs { Runs texts (task_of (map string_bytes words.items)).stage
         (F.log files.old) (F.log files.new) (F.state files.old) (F.state files.new)
         (S.state out.old) (S.state out.new) result }
-    ensures means { MeansIfCommand (command_of (map string_bytes words.items))
+    ensures checks { DoesCheck (map string_bytes words.items)
+        (F.log files.old) (F.log files.new) (S.state out.old) (S.state out.new) result
+        IsVerdict }
+    ensures checks_from { DoesCheckFrom (map string_bytes words.items)
+        (F.log files.old) (F.log files.new) (S.state out.old) (S.state out.new) result
+        IsVerdict }
+    ensures runs_code { DoesRun (map string_bytes words.items)
+        (F.log files.old) (F.log files.new) (S.state out.old) (S.state out.new) result
+        IsVerdict }
+    ensures refuses { Refuses (map string_bytes words.items)
+        (F.log files.old) (F.log files.new) (S.state out.old) (S.state out.new) result }
+    ensures refers { DoesRef (map string_bytes words.items)
+        (F.log files.old) (F.log files.new) (S.state out.old) (S.state out.new) result }
+    ensures assembles { DoesAsm (map string_bytes words.items)
+        (F.log files.old) (F.log files.new) (S.state out.old) (S.state out.new) result }
+    ensures proves { DoesProve (map string_bytes words.items)
+        (F.log files.old) (F.log files.new) (S.state out.old) (S.state out.new) result }
+    ensures proves_exactly { DoesProveExactly (map string_bytes words.items)
+        (F.log files.old) (F.log files.new) (S.state out.old) (S.state out.new) result }
+    ensures demonstrates { DoesDemo (map string_bytes words.items)
+        (F.log files.old) (F.log files.new) (S.state out.old) (S.state out.new) result }
+    ensures upgrades { DoesUpgrade (map string_bytes words.items)
+        (F.log files.old) (F.log files.new) (S.state out.old) (S.state out.new) result }
+    ensures hosts { DoesHost (map string_bytes words.items)
+        (F.log files.old) (F.log files.new) (S.state out.old) (S.state out.new) result }
+    ensures compiles { DoesCompile (map string_bytes words.items)
+        (F.log files.old) (F.log files.new) (S.state out.old) (S.state out.new) result }
+    ensures compiles_exactly { DoesCompileExactly (map string_bytes words.items)
+        (F.log files.old) (F.log files.new) (S.state out.old) (S.state out.new) result }
+    ensures no_command { DoesNothing (map string_bytes words.items)
         (F.log files.old) (F.log files.new) (S.state out.old) (S.state out.new) result }
     ensures ends { Ends (request_of (map string_bytes words.items))
         (F.state files.old) (F.state files.new) (S.state out.old) (S.state out.new) result }
@@ -120,6 +163,7 @@ pub fn pcc<F: Files, S: Sink>(alloc: Global, words: Vec<String>, files: &mut F, 
     gate_upgrade::laws();
     alpha_cfg::isolation_laws();
     alpha_turns::part_laws();
+    agent_script::laws();
     let decision = decide(alloc, words.as_slice(), files);
     print(decision, out)
 }
@@ -128,6 +172,9 @@ pub fn pcc<F: Files, S: Sink>(alloc: Global, words: Vec<String>, files: &mut F, 
 /// the contents of the files are known, the run ends with the answer over them, or as a failed call
 /// or running out of memory requires; if they aren't known, less is known (`Ends`). Its exit status
 /// and the counts of faults say what `Accounts` lists.
+///
+/// By `means`, if a run keeps the clauses of the commands, it means what `specs/Means` says: also if
+/// memory ran out, its reads are those that the command's definition asks for.
 pub fn laws()
     ensures ends { (args : List (List ℕ)) (e e' : List Event) (f g : FilesState) (s t : SinkState)
         (status : ℕ) → Runs texts (task_of args).stage e e' f g s t status
@@ -135,6 +182,13 @@ pub fn laws()
     ensures accounts { (args : List (List ℕ)) (e e' : List Event) (f g : FilesState)
         (s t : SinkState) (status : ℕ) → Runs texts (task_of args).stage e e' f g s t status
         → Accounts (request_of args) f g s t status }
+    ensures means { (words : List (List ℕ)) (e e' : List Event) (s t : SinkState) (status : ℕ)
+        → KeepsClauses words e e' s t status
+        → MeansIfCommand (command_of words) e e' s t status }
 {
     pcc_stages::laws();
+    pcc_gate::laws();
+    policy_set::laws();
+    packet_store::laws();
+    agent_script::laws();
 }
