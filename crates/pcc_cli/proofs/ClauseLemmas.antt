@@ -21,8 +21,8 @@ use Rattle.pcc_stages.proofs.StageLemmas.{follows-join, happens-join}
 use Rattle.pcc_commands.specs.Tasks.{stage_of, task_of, task_of_command}
 use Rattle.pcc_cli.specs.Headline.{IsNoProgram, ToldOf, StopsAt, IsVerdict, IsFirstVerdict, Checks, ChecksFrom, without_policy, with_policy, RunsCode}
 use Rattle.pcc_cli.specs.Headline.{not_accepted, accepted, Makes, not_made, made, ProvesExactly, IsUnproved, CompilesTo, CompilesExactly}
-use Rattle.pcc_cli.specs.Clauses.{AreOfBytes, Came, came, out_of_memory, EndsAtOnce, Under, DoesNothing, DoesCheck, DoesCheckFrom, DoesRun, Refuses}
-use Rattle.pcc_cli.specs.Clauses.{DoesProve, DoesProveExactly, DoesCompile, DoesCompileExactly}
+use Rattle.pcc_cli.specs.Clauses.{AreOfBytes, Came, came, out_of_memory, EndsAtOnce, Under, DoesNothing, DoesCheck, DoesCheckFrom, DoesRun}
+use Rattle.pcc_cli.specs.Clauses.{DoesProve, DoesCompile}
 use Rattle.pcc_cli.specs.Means.{MayDo, KeepsClauses}
 use Rattle.pcc_cli.proofs.EndLemmas.{Ended, ended_of, ended_at_once}
 use Rattle.pcc_cli.proofs.HeadlineLemmas.{CommandLaws, does, proved_told}
@@ -167,35 +167,18 @@ module _ (laws : CommandLaws) (words : List (List ℕ)) (e e' : List Event) (f g
       (λ events exit m n h ended. ended_at_once (usage_exit texts) events exit ended) e e' f g s t status
       (subst (λ o. Runs texts (task_of_command o).stage e e' f g s t status) is runs)
 
-  pub keeps : KeepsClauses words e e' s t status
-  keeps = record {
-    refuses = record {
-      checks = λ policy file. did (check (named policy) file);
-      checks_from = λ name file. did (check (from_file name) file);
-      runs_code = λ policy file packets steps. did (run policy file packets steps);
-    };
-    refers = λ policy file packets steps. did (ref policy file packets steps);
-    assembles = λ policy input output version bound. did (asm policy input output version bound);
-    proves_exactly = λ policy input output. did (prove policy input output);
-    demonstrates = λ n. did (demo n);
-    upgrades = λ input output. did (upgrade input output);
-    hosts = λ script. did (host script);
-    compiles_exactly = λ input output. did (bpf input output);
-    no_command = did_nothing;
-  }
-
-  pub did_check : DoesCheck words e e' s t status IsVerdict
+  did_check : DoesCheck IsVerdict words e e' s t status
   did_check policy file is =
       weaker (Under (policy_of policy) (λ under. Checks IsFirstVerdict under file)) (Under (policy_of policy) (λ under. Checks IsVerdict under file))
       (under_weaker (policy_of policy) (λ under. Checks IsFirstVerdict under file) (λ under. Checks IsVerdict under file) (checks_weaker file))
       e e' s t status (did (check (named policy) file) is)
 
-  pub did_check_from : DoesCheckFrom words e e' s t status IsVerdict
+  did_check_from : DoesCheckFrom IsVerdict words e e' s t status
   did_check_from name file is =
       weaker (ChecksFrom IsFirstVerdict name file) (ChecksFrom IsVerdict name file) (checks_from_weaker name file) e e' s t status
       (did (check (from_file name) file) is)
 
-  pub did_run : DoesRun words e e' s t status IsVerdict
+  did_run : DoesRun IsVerdict words e e' s t status
   did_run policy file packets steps is =
       weaker (Under (policy_of policy) (λ under. RunsCode IsFirstVerdict under file packets steps))
       (Under (policy_of policy) (λ under. RunsCode IsVerdict under file packets steps))
@@ -207,7 +190,7 @@ module _ (laws : CommandLaws) (words : List (List ℕ)) (e e' : List Event) (f g
   abbrev proving : (PolicyView → List ℕ → List ℕ → Type 0) → (PolicyView → List ℕ → Exit → Type 0) → List ℕ → List ℕ → PolicyView → List Event → Exit → Type 0
   proving IsMade IsTold input output under = Makes input output MAX_FILE (IsMade under) (ToldOf (IsTold under) input container_too_long_line)
 
-  pub did_prove : DoesProve words e e' s t status
+  did_prove : DoesProve words e e' s t status
   did_prove policy input output is =
       let exactly : PolicyView → List Event → Exit → Type 0 = proving ProvesExactly (λ under. StopsAt (proved_in under)) input output in
       let roughly : PolicyView → List Event → Exit → Type 0 = proving (λ under b out. IsAccepted under out) (λ under. IsUnproved) input output in
@@ -219,9 +202,31 @@ module _ (laws : CommandLaws) (words : List (List ℕ)) (e e' : List Event) (f g
       (told_weaker (StopsAt (proved_in under)) IsUnproved (proved_told under) input container_too_long_line)))
       e e' s t status (did (prove policy input output) is)
 
-  pub did_compile : DoesCompile words e e' s t status
+  did_compile : DoesCompile words e e' s t status
   did_compile input output is =
       let told : Given → Exit → Type 0 = ToldOf IsNoProgram input bpf_too_long_line in
       weaker (Makes input output MAX_PROGRAM_FILE CompilesExactly told) (Makes input output MAX_PROGRAM_FILE CompilesTo told)
       (makes_weaker input output MAX_PROGRAM_FILE CompilesExactly CompilesTo told told (λ b out c. c.compiles) (λ given exit is_told. is_told))
       e e' s t status (did (bpf input output) is)
+
+  pub keeps : KeepsClauses words e e' s t status
+  keeps = record {
+    checks = did_check;
+    checks_from = did_check_from;
+    runs_code = did_run;
+    refuses = record {
+      checks = λ policy file. did (check (named policy) file);
+      checks_from = λ name file. did (check (from_file name) file);
+      runs_code = λ policy file packets steps. did (run policy file packets steps);
+    };
+    refers = λ policy file packets steps. did (ref policy file packets steps);
+    assembles = λ policy input output version bound. did (asm policy input output version bound);
+    proves = did_prove;
+    proves_exactly = λ policy input output. did (prove policy input output);
+    demonstrates = λ n. did (demo n);
+    upgrades = λ input output. did (upgrade input output);
+    hosts = λ script. did (host script);
+    compiles = did_compile;
+    compiles_exactly = λ input output. did (bpf input output);
+    no_command = did_nothing;
+  }

@@ -1,5 +1,7 @@
 -- What a run of each command did, whatever the files hold: a definition for each clause of `pcc`.
-use Rattle.std.specs.Prelude.{◌≡◌, ℕ, List, [], ◌∷◌, ◌++◌, Option, None, Some}
+use Rattle.std.specs.Prelude.{◌≡◌, ℕ, List, [], ◌∷◌, ◌++◌, Option, None, Some, String, map, string_bytes}
+use Rattle.std.specs.Borrow.{MutBor}
+use denote.Triple.Both.{Both}
 use Rattle.file_port.specs.Events.{Event, was_read, was_written, was_put}
 use Rattle.file_port.specs.Sink.{SinkState}
 use Rattle.asm_text.specs.declared.limits.TheConstants.{MAX_SOURCE}
@@ -49,6 +51,15 @@ abbrev pub Under : Option PolicyView → (PolicyView → List Event → Exit →
 Under None May = EndsAtOnce (refused unknown_policy_line)
 Under (Some policy) May = May policy
 
+-- A run of `pcc` keeps a clause, which says something of its words, of the log of its files and of
+-- its output, each as it was before the run and as it is after it, and of the status.
+abbrev pub RunKeeps : {F S A : Type 0} → (F → List Event) → (S → SinkState) → List (String A)
+    → Both (MutBor F) (MutBor F) → Both (MutBor S) (MutBor S) → ℕ
+    → (List (List ℕ) → List Event → List Event → SinkState → SinkState → ℕ → Type 0) → Type 0
+RunKeeps log state words files out status Clause =
+    Clause (map string_bytes words) (log files.entry.now) (log files.exit.now)
+    (state out.entry.now) (state out.exit.now) status
+
 -- ---- the clauses
 
 -- a run of these words, from a log e and an output s to e' and t, which ended with the status
@@ -61,29 +72,6 @@ module _ (words : List (List ℕ)) (e e' : List Event) (s t : SinkState) (status
   abbrev pub DoesNothing : Type 0
   DoesNothing =
       command_of words ≡ None → Came (EndsAtOnce (usage_exit texts)) e e' s t status
-
-  -- `check POLICY FILE`, by this verdict
-  abbrev pub DoesCheck : Verdict → Type 0
-  DoesCheck Judges =
-      (policy file : List ℕ) → Does (check (named policy) file)
-      (Under (policy_of policy) (λ under. Checks Judges under file))
-
-  -- `check @NAME FILE`, by this verdict
-  abbrev pub DoesCheckFrom : Verdict → Type 0
-  DoesCheckFrom Judges =
-      (name file : List ℕ) → Does (check (from_file name) file) (ChecksFrom Judges name file)
-
-  -- `run POLICY FILE PACKETS`, by this verdict, and the steps for a packet
-  abbrev pub DoesRun : Verdict → Type 0
-  DoesRun Judges =
-      (policy file packets : List ℕ) (steps : ℕ) → Does (run policy file packets steps)
-      (Under (policy_of policy) (λ under. RunsCode Judges under file packets steps))
-
-  -- these three, and a refusal is that of the first clause that fails
-  pub record Refuses : Type 0 where
-    pub checks : DoesCheck IsFirstVerdict
-    pub checks_from : DoesCheckFrom IsFirstVerdict
-    pub runs_code : DoesRun IsFirstVerdict
 
   -- `ref POLICY FILE PACKETS`, and the steps for a packet
   abbrev pub DoesRef : Type 0
@@ -139,3 +127,32 @@ module _ (words : List (List ℕ)) (e e' : List Event) (s t : SinkState) (status
       (input output : List ℕ) → Does (bpf input output)
       (Makes input output MAX_PROGRAM_FILE CompilesExactly
       (ToldOf IsNoProgram input bpf_too_long_line))
+
+-- the same, of what is judged by this verdict
+module _ (Judges : Verdict) (words : List (List ℕ)) (e e' : List Event) (s t : SinkState)
+    (status : ℕ) where
+  -- `check POLICY FILE`
+  abbrev pub DoesCheck : Type 0
+  DoesCheck =
+      (policy file : List ℕ) → Does words e e' s t status (check (named policy) file)
+      (Under (policy_of policy) (λ under. Checks Judges under file))
+
+  -- `check @NAME FILE`
+  abbrev pub DoesCheckFrom : Type 0
+  DoesCheckFrom =
+      (name file : List ℕ) → Does words e e' s t status (check (from_file name) file)
+      (ChecksFrom Judges name file)
+
+  -- `run POLICY FILE PACKETS`, and the steps for a packet
+  abbrev pub DoesRun : Type 0
+  DoesRun =
+      (policy file packets : List ℕ) (steps : ℕ)
+      → Does words e e' s t status (run policy file packets steps)
+      (Under (policy_of policy) (λ under. RunsCode Judges under file packets steps))
+
+-- these three, and a refusal is that of the first clause that fails
+pub record DoesRefuse (words : List (List ℕ)) (e e' : List Event) (s t : SinkState) (status : ℕ)
+    : Type 0 where
+  pub checks : DoesCheck IsFirstVerdict words e e' s t status
+  pub checks_from : DoesCheckFrom IsFirstVerdict words e e' s t status
+  pub runs_code : DoesRun IsFirstVerdict words e e' s t status

@@ -16,8 +16,9 @@ use Rattle.pcc_commands.specs.Stages.Assembling.{assembled_in}
 use Rattle.pcc_commands.specs.Stages.Proving.{proved_in}
 use Rattle.pcc_commands.specs.Tasks.{stage_of}
 use Rattle.pcc_commands.specs.declared.stages.TheConstants.{MAX_PROGRAM_FILE}
-use Rattle.pcc_cli.specs.Headline.{IsFirstVerdict, ToldOf, StopsAt, Checks, ChecksFrom, RunsCode, Refs, Demonstrates, Makes, AssemblesTo, ProvesExactly, UpgradesTo, IsNoUpgrade, CompilesExactly, IsNoProgram, Hosts}
-use Rattle.pcc_cli.specs.Clauses.{Under, DoesNothing, Refuses, DoesRef, DoesAsm, DoesProveExactly, DoesDemo, DoesUpgrade, DoesHost, DoesCompileExactly}
+use Rattle.pcc_cli.specs.Headline.{IsVerdict, IsFirstVerdict, ToldOf, StopsAt, Checks, ChecksFrom, RunsCode, Refs, Demonstrates, Makes, AssemblesTo, ProvesExactly, UpgradesTo, IsNoUpgrade, CompilesExactly, IsNoProgram, Hosts}
+use Rattle.pcc_cli.specs.Clauses.{Under, DoesNothing, DoesCheck, DoesCheckFrom, DoesRun, DoesRefuse, DoesRef, DoesAsm}
+use Rattle.pcc_cli.specs.Clauses.{DoesProve, DoesProveExactly, DoesDemo, DoesUpgrade, DoesHost, DoesCompile, DoesCompileExactly}
 
 -- what a command may do that comes to an exit
 abbrev pub MayDo : Invocation → List Event → Exit → Type 0
@@ -59,15 +60,20 @@ abbrev pub MeansIfCommand : Option Invocation → List Event → List Event → 
 MeansIfCommand None e e' s t status = e' ≡ e
 MeansIfCommand (Some invocation) e e' s t status = Means invocation e e' s t status
 
--- a run keeps the clauses of the commands, each in its exact form
+-- a run keeps each of the clauses of the commands
 pub record KeepsClauses (words : List (List ℕ)) (e e' : List Event) (s t : SinkState) (status : ℕ)
     : Type 0 where
-  pub refuses : Refuses words e e' s t status
+  pub checks : DoesCheck IsVerdict words e e' s t status
+  pub checks_from : DoesCheckFrom IsVerdict words e e' s t status
+  pub runs_code : DoesRun IsVerdict words e e' s t status
+  pub refuses : DoesRefuse words e e' s t status
   pub refers : DoesRef words e e' s t status
   pub assembles : DoesAsm words e e' s t status
+  pub proves : DoesProve words e e' s t status
   pub proves_exactly : DoesProveExactly words e e' s t status
   pub demonstrates : DoesDemo words e e' s t status
   pub upgrades : DoesUpgrade words e e' s t status
   pub hosts : DoesHost words e e' s t status
+  pub compiles : DoesCompile words e e' s t status
   pub compiles_exactly : DoesCompileExactly words e e' s t status
   pub no_command : DoesNothing words e e' s t status

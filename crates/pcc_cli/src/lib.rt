@@ -8,4 +8,4 @@
 
 mod top_call;
 
-pub use top_call::{laws, pcc};
+pub use top_call::{accepted_laws, laws, pcc};

@@ -11,13 +11,12 @@ ghost use Rattle.pcc_stages.specs.Texts.{texts};
 ghost use Rattle.pcc_stages.specs.Decisions.{Decides, exit_of};
 ghost use Rattle.pcc_commands.specs.Tasks.{task_of, request_of};
 ghost use Rattle.pcc_gate.specs.Safe.{AcceptedSafe};
-ghost use Rattle.pcc_cli.specs.Clauses.{DoesCheck, DoesCheckFrom, DoesRun, DoesRef, DoesAsm};
-ghost use Rattle.pcc_cli.specs.Clauses.{DoesProve, DoesProveExactly, DoesDemo, DoesUpgrade};
-ghost use Rattle.pcc_cli.specs.Clauses.{Refuses, DoesHost, DoesCompile, DoesCompileExactly, DoesNothing};
+ghost use Rattle.pcc_cli.specs.Clauses.{RunKeeps, DoesCheck, DoesCheckFrom, DoesRun, DoesRefuse};
+ghost use Rattle.pcc_cli.specs.Clauses.{DoesRef, DoesAsm, DoesProve, DoesProveExactly, DoesDemo};
+ghost use Rattle.pcc_cli.specs.Clauses.{DoesUpgrade, DoesHost, DoesCompile, DoesCompileExactly, DoesNothing};
 ghost use Rattle.pcc_words.specs.Invocations.{command_of};
 ghost use Rattle.pcc_cli.specs.Means.{KeepsClauses, MeansIfCommand};
-ghost use Rattle.pcc_cli.specs.Headline.{IsVerdict, AcceptedRunsSafely, AgentsStayInParts};
-ghost use Rattle.pcc_cli.specs.Headline.{BoundedReturns};
+ghost use Rattle.pcc_cli.specs.Headline.{IsVerdict, AcceptedRunsSafely, AgentsStayInParts, BoundedReturns};
 ghost use Rattle.pcc_commands.specs.Reports.{report_exit};
 
 use file_port::{Files, Sink};
@@ -80,9 +79,9 @@ fn print<S: Sink>(decision: Result<Report, Stop<'_>>, out: &mut S) -> u8
 /// behind the first of the reads that the command makes; then nothing is written or printed. If the
 /// arguments are no command, nothing is read, and the usage line is printed (`no_command`).
 ///
-/// By `checks`, `check` reads FILE once. It prints `accepted` exactly if the bytes read are accepted
-/// under the policy, which is so exactly if they are with every lemma inlined; else it prints the
-/// line of a refusal. `refuses` says which: the refusal of the first check that fails.
+/// By `checks`, `check` reads FILE once. It prints `accepted` exactly if the bytes read are
+/// accepted under the policy, which is so exactly if they are with every lemma inlined; else it
+/// prints the line of a refusal. `refuses` says which: the refusal of the first check that fails.
 /// `checks_from` says the same of a policy `@NAME`: the one that one earlier read of NAME gave.
 ///
 /// By `runs_code`, `run` runs the code that was accepted from the bytes read, and no other, and
@@ -113,37 +112,22 @@ pub fn pcc<F: Files, S: Sink>(alloc: Global, words: Vec<String>, files: &mut F, 
     ensures runs { Runs texts (task_of (map string_bytes words.items)).stage
         (F.log files.old) (F.log files.new) (F.state files.old) (F.state files.new)
         (S.state out.old) (S.state out.new) result }
-    ensures checks { DoesCheck (map string_bytes words.items)
-        (F.log files.old) (F.log files.new) (S.state out.old) (S.state out.new) result
-        IsVerdict }
-    ensures checks_from { DoesCheckFrom (map string_bytes words.items)
-        (F.log files.old) (F.log files.new) (S.state out.old) (S.state out.new) result
-        IsVerdict }
-    ensures runs_code { DoesRun (map string_bytes words.items)
-        (F.log files.old) (F.log files.new) (S.state out.old) (S.state out.new) result
-        IsVerdict }
-    ensures refuses { Refuses (map string_bytes words.items)
-        (F.log files.old) (F.log files.new) (S.state out.old) (S.state out.new) result }
-    ensures refers { DoesRef (map string_bytes words.items)
-        (F.log files.old) (F.log files.new) (S.state out.old) (S.state out.new) result }
-    ensures assembles { DoesAsm (map string_bytes words.items)
-        (F.log files.old) (F.log files.new) (S.state out.old) (S.state out.new) result }
-    ensures proves { DoesProve (map string_bytes words.items)
-        (F.log files.old) (F.log files.new) (S.state out.old) (S.state out.new) result }
-    ensures proves_exactly { DoesProveExactly (map string_bytes words.items)
-        (F.log files.old) (F.log files.new) (S.state out.old) (S.state out.new) result }
-    ensures demonstrates { DoesDemo (map string_bytes words.items)
-        (F.log files.old) (F.log files.new) (S.state out.old) (S.state out.new) result }
-    ensures upgrades { DoesUpgrade (map string_bytes words.items)
-        (F.log files.old) (F.log files.new) (S.state out.old) (S.state out.new) result }
-    ensures hosts { DoesHost (map string_bytes words.items)
-        (F.log files.old) (F.log files.new) (S.state out.old) (S.state out.new) result }
-    ensures compiles { DoesCompile (map string_bytes words.items)
-        (F.log files.old) (F.log files.new) (S.state out.old) (S.state out.new) result }
-    ensures compiles_exactly { DoesCompileExactly (map string_bytes words.items)
-        (F.log files.old) (F.log files.new) (S.state out.old) (S.state out.new) result }
-    ensures no_command { DoesNothing (map string_bytes words.items)
-        (F.log files.old) (F.log files.new) (S.state out.old) (S.state out.new) result }
+    ensures checks { RunKeeps F.log S.state words.items files out result (DoesCheck IsVerdict) }
+    ensures checks_from { RunKeeps F.log S.state words.items files out result
+        (DoesCheckFrom IsVerdict) }
+    ensures runs_code { RunKeeps F.log S.state words.items files out result (DoesRun IsVerdict) }
+    ensures refuses { RunKeeps F.log S.state words.items files out result DoesRefuse }
+    ensures refers { RunKeeps F.log S.state words.items files out result DoesRef }
+    ensures assembles { RunKeeps F.log S.state words.items files out result DoesAsm }
+    ensures proves { RunKeeps F.log S.state words.items files out result DoesProve }
+    ensures proves_exactly { RunKeeps F.log S.state words.items files out result DoesProveExactly }
+    ensures demonstrates { RunKeeps F.log S.state words.items files out result DoesDemo }
+    ensures upgrades { RunKeeps F.log S.state words.items files out result DoesUpgrade }
+    ensures hosts { RunKeeps F.log S.state words.items files out result DoesHost }
+    ensures compiles { RunKeeps F.log S.state words.items files out result DoesCompile }
+    ensures compiles_exactly { RunKeeps F.log S.state words.items files out result
+        DoesCompileExactly }
+    ensures no_command { RunKeeps F.log S.state words.items files out result DoesNothing }
     ensures ends { Ends (request_of (map string_bytes words.items))
         (F.state files.old) (F.state files.new) (S.state out.old) (S.state out.new) result }
     ensures accounts { Accounts (request_of (map string_bytes words.items))
@@ -154,16 +138,7 @@ pub fn pcc<F: Files, S: Sink>(alloc: Global, words: Vec<String>, files: &mut F, 
     ensures returns { BoundedReturns }
 {
     laws();
-    pcc_gate::laws();
-    packet_store::laws();
-    bounds_prover::prove_laws();
-    bpf_words::laws();
-    bpf_compile::laws();
-    policy_set::laws();
-    gate_upgrade::laws();
-    alpha_cfg::isolation_laws();
-    alpha_turns::part_laws();
-    agent_script::laws();
+    accepted_laws();
     let decision = decide(alloc, words.as_slice(), files);
     print(decision, out)
 }
@@ -173,8 +148,9 @@ pub fn pcc<F: Files, S: Sink>(alloc: Global, words: Vec<String>, files: &mut F, 
 /// or running out of memory requires; if they aren't known, less is known (`Ends`). Its exit status
 /// and the counts of faults say what `Accounts` lists.
 ///
-/// By `means`, if a run keeps the clauses of the commands, it means what `specs/Means` says: also if
-/// memory ran out, its reads are those that the command's definition asks for.
+/// By `keeps`, it keeps the clause of each command. By `means`, a run that keeps these clauses
+/// means what `specs/Means` says: also if memory ran out, its reads are those that the command's
+/// definition asks for.
 pub fn laws()
     ensures ends { (args : List (List ℕ)) (e e' : List Event) (f g : FilesState) (s t : SinkState)
         (status : ℕ) → Runs texts (task_of args).stage e e' f g s t status
@@ -182,6 +158,9 @@ pub fn laws()
     ensures accounts { (args : List (List ℕ)) (e e' : List Event) (f g : FilesState)
         (s t : SinkState) (status : ℕ) → Runs texts (task_of args).stage e e' f g s t status
         → Accounts (request_of args) f g s t status }
+    ensures keeps { (words : List (List ℕ)) (e e' : List Event) (f g : FilesState) (s t : SinkState)
+        (status : ℕ) → Runs texts (task_of words).stage e e' f g s t status
+        → KeepsClauses words e e' s t status }
     ensures means { (words : List (List ℕ)) (e e' : List Event) (s t : SinkState) (status : ℕ)
         → KeepsClauses words e e' s t status
         → MeansIfCommand (command_of words) e e' s t status }
@@ -191,4 +170,22 @@ pub fn laws()
     policy_set::laws();
     packet_store::laws();
     agent_script::laws();
+    bounds_prover::prove_laws();
+    bpf_words::laws();
+    bpf_compile::laws();
+    gate_upgrade::laws();
+}
+
+/// States what accepted code is worth, for `pcc` or another program: what `sound`, `safe`, `apart`
+/// and `returns` of `pcc` say.
+pub fn accepted_laws()
+    ensures sound { AcceptedSafe }
+    ensures safe { AcceptedRunsSafely }
+    ensures apart { AgentsStayInParts }
+    ensures returns { BoundedReturns }
+{
+    pcc_gate::laws();
+    packet_store::laws();
+    alpha_cfg::isolation_laws();
+    alpha_turns::part_laws();
 }
