@@ -71,7 +71,7 @@ use Rattle.pcc_stages.specs.Stages.Policies.{no_policy_spelled}
 use Rattle.pcc_stages.specs.declared.files.TheConstants.{MAX_FILE, MAX_POLICY_FILE}
 use Rattle.pcc_commands.specs.Stages.Assembling.{assembled_in}
 use Rattle.pcc_commands.specs.Stages.Hosting.{Member, told_of}
-use Rattle.pcc_commands.specs.Stages.Proving.{no_container}
+use Rattle.pcc_commands.specs.Stages.Proving.{no_container as unproved_exit}
 use Rattle.pcc_commands.specs.Stages.Upgrading.{not_upgraded}
 use Rattle.pcc_commands.specs.Commands.Demo.{demo_command}
 use Rattle.pcc_commands.specs.Commands.Host.{turn_lines}
@@ -201,7 +201,7 @@ AssemblesTo version bound policy text out = assembled_in version bound policy te
 
 -- `prove` makes nothing of bytes that have a flaw, and prints one
 abbrev pub IsUnproved : List ℕ → Exit → Type 0
-IsUnproved bytes exit = (flaw : ProveFlaw) × (exit ≡ no_container flaw)
+IsUnproved bytes exit = (flaw : ProveFlaw) × (exit ≡ unproved_exit flaw)
 
 -- what `prove` makes is accepted, and it is what the class of proofs that it searches has
 pub record ProvesExactly (policy : PolicyView) (bytes out : List ℕ) : Type 0 where
