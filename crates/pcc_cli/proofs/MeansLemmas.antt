@@ -171,7 +171,7 @@ reach_check Judges under file more on events rest exit c = reach_once file MAX_F
 module _ (gate : GateLaws) (policies : ReadsPolicies) (name file : List ℕ) (events rest : List Event) (exit : Exit) where
   reach_from : ChecksFrom IsFirstVerdict name file (events ++ rest) exit → Reach events
       (reads name MAX_POLICY_FILE (refused policy_too_long_line) (checked_by gate policies name file))
-  reach_from (without_policy given is no) = reach_once name MAX_POLICY_FILE (refused policy_too_long_line)
+  reach_from (without_policy given is why) = reach_once name MAX_POLICY_FILE (refused policy_too_long_line)
       (checked_by gate policies name file) given events rest is
   reach_from (with_policy text policy given spells kept is judged) =
       reach_read name MAX_POLICY_FILE (refused policy_too_long_line) (checked_by gate policies name file) (whole text) events rest
