@@ -70,23 +70,33 @@ proves_conclusion sig t hyps params n r l e has k room form =
     (proofs_ready sig t hyps room.depth few (nth_arg (trees_of t params)) r.premises l k form.fit room.proofs)
 
 -- the conclusion's term, made over a later table, is of the trees in the first
-pub term-was : (t u v : TableView) (params : List ℕ) (n : ℕ) (r : Rule) (l : List Sequent) (id : ℕ) → AllKnown t params → AreOfTable t l → Extends t u
-    → IsIdOf v (by_rule n (trees_of u params) (proofs_taken u r.premises l)) id → tree_at v id ≡ by_rule n (trees_of t params) (proofs_taken t r.premises l)
-term-was t u v params n r l id known placed x made = made.is ∙ (λ i. by_rule n (trees-same t u params known x i) (proofs-same t u r.premises l placed x i))
+pub term-was : (t u v : TableView) (params : List ℕ) (n : ℕ) (r : Rule) (l : List Sequent) (id : ℕ)
+    → AllKnown t params → AreOfTable t l → Extends t u → IsIdOf v (by_rule n (trees_of u params) (proofs_taken u r.premises l)) id
+    → tree_at v id ≡ by_rule n (trees_of t params) (proofs_taken t r.premises l)
+term-was t u v params n r l id known placed x made =
+    made.is ∙ (λ i. by_rule n (trees-same t u params known x i) (proofs-same t u r.premises l placed x i))
 
 -- and so is its formula
-pub goal-was : (t u v : TableView) (params : List ℕ) (r : Rule) (id : ℕ) → AllKnown t params → Extends t u
-    → IsIdOf v (form_with r.conclusion (raised_by 0 (nth_arg (trees_of u params)))) id → tree_at v id ≡ form_with r.conclusion (nth_arg (trees_of t params))
-goal-was t u v params r id known x made = made.is ∙ (λ i. form_with r.conclusion (λ j. shift-none (nth_arg (trees-same t u params known x i) j) 0 i))
+pub goal-was : (t u v : TableView) (params : List ℕ) (r : Rule) (id : ℕ)
+    → AllKnown t params → Extends t u → IsIdOf v (form_with r.conclusion (raised_by 0 (nth_arg (trees_of u params)))) id
+    → tree_at v id ≡ form_with r.conclusion (nth_arg (trees_of t params))
+goal-was t u v params r id known x made =
+    made.is ∙ (λ i. form_with r.conclusion (λ j. shift-none (nth_arg (trees-same t u params known x i) j) 0 i))
 
--- what checks in a later table, where term and goal are the conclusion's, is that the conclusion's term checks
-pub derives-at : (sig after : Const → Option Tree) (t u : TableView) (hyps params : List ℕ) (n : ℕ) (r : Rule) (l : List Sequent) (term goal : ℕ) → after ≡ sig → AllKnown t hyps → Extends t u
-    → tree_at u term ≡ by_rule n (trees_of t params) (proofs_taken t r.premises l) → tree_at u goal ≡ form_with r.conclusion (nth_arg (trees_of t params))
+-- that the conclusion's term checks is what is checked of it in a later table
+pub derives-at : (sig after : Const → Option Tree) (t u : TableView) (hyps params : List ℕ) (n : ℕ) (r : Rule) (l : List Sequent)
+    (term goal : ℕ) → after ≡ sig → AllKnown t hyps → Extends t u
+    → tree_at u term ≡ by_rule n (trees_of t params) (proofs_taken t r.premises l)
+    → tree_at u goal ≡ form_with r.conclusion (nth_arg (trees_of t params))
     → Checks after (ctx_of u hyps) (tree_at u term) (pf (tree_at u goal)) ≡ Derives sig t hyps params n r l
-derives-at sig after t u hyps params n r l term goal same known x is-term is-goal = λ i. Checks (same i) (ctx-same t u hyps known x i) (is-term i) (pf (is-goal i))
+derives-at sig after t u hyps params n r l term goal same known x is-term is-goal =
+    λ i. Checks (same i) (ctx-same t u hyps known x i) (is-term i) (pf (is-goal i))
 
-pub concluded : (sig : Const → Option Tree) (t u : TableView) (hyps params : List ℕ) (n : ℕ) (r : Rule) (l : List Sequent) (s : Sequent) → AllKnown t hyps → Extends t u → s.hyps.items ≡ hyps
-    → IsKnown u s.goal → tree_at u s.goal ≡ form_with r.conclusion (nth_arg (trees_of t params)) → IsKnown u s.term → tree_at u s.term ≡ by_rule n (trees_of t params) (proofs_taken t r.premises l)
+-- where it checks, it gives the sequent
+pub concluded : (sig : Const → Option Tree) (t u : TableView) (hyps params : List ℕ) (n : ℕ) (r : Rule) (l : List Sequent) (s : Sequent)
+    → AllKnown t hyps → Extends t u → s.hyps.items ≡ hyps
+    → IsKnown u s.goal → tree_at u s.goal ≡ form_with r.conclusion (nth_arg (trees_of t params))
+    → IsKnown u s.term → tree_at u s.term ≡ by_rule n (trees_of t params) (proofs_taken t r.premises l)
     → Derives sig t hyps params n r l → Concludes sig t u hyps params n r l s
 concluded sig t u hyps params n r l s known x same goal-known goal term-known term derives =
     let ctx : ctx_of t hyps ≡ ctx_of u s.hyps.items = sym (ap (ctx_of u) same ∙ ctx-same t u hyps known x) in

@@ -7,7 +7,7 @@ use Rattle.lf_signature.specs.Terms.{exp, mem, pf}
 use Rattle.lf_signature.specs.Rules.{Sort, sort_type, Premise, Plain, Under, ForExp, ForMem, Rule}
 use Rattle.lf_signature.specs.Typing.{Checks, atom_checks}
 use Rattle.lf_signature.specs.Laws.Decided.{synth_unique}
-use Rattle.lf_terms.specs.Instance.{nth_arg, form_with, trees_of}
+use Rattle.lf_terms.specs.Instance.{nth_arg, form_with}
 use Rattle.lf_sequents.specs.declared.sequent.Sequent.{Sequent}
 use Rattle.lf_sequents.specs.Sequents.{IsOfTable, AreOfTable, IsSequent, AreSequents}
 use Rattle.lf_sequents.specs.Answers.{AreTyped, Binds, FitsPremise, FitPremises, proof_taken, proofs_taken, HasForm}
@@ -121,15 +121,22 @@ one_formula sig (atom_checks h i) (atom_checks k j) = same (synth_unique sig h k
     same e = cc
 
 -- parameters and premises have the form in a later table exactly where they had it
-module _ (sig : Const → Option Tree) (t u : TableView) (hyps params : List ℕ) (r : Rule) (l : List Sequent) (hyps-known : AllKnown t hyps) (params-known : AllKnown t params) (placed : AreOfTable t l) (x : Extends t u) where
+module _ (sig : Const → Option Tree) (t u : TableView) (hyps params : List ℕ) (r : Rule) (l : List Sequent) (known : AllKnown t hyps)
+    (params-known : AllKnown t params) (placed : AreOfTable t l) (x : Extends t u) where
   pub form-more : HasForm sig t hyps params r l → HasForm sig u hyps params r l
-  form-more form = record {
-    typed = subst (λ (z : Type 0). z) (λ i. AreTyped sig (sym (ctx-same t u hyps hyps-known x) i) r.parameters (sym (trees-same t u params params-known x) i)) form.typed;
-    fit = subst (λ z. FitPremises u hyps (nth_arg z) r.premises l) (sym (trees-same t u params params-known x)) (fit-more t u hyps (nth_arg (trees_of t params)) r.premises l placed x form.fit);
-  }
+  form-more form =
+      let ctx = ctx-same t u hyps known x in
+      let args = trees-same t u params params-known x in
+      record {
+        typed = subst (λ (z : Type 0). z) (λ i. AreTyped sig (sym ctx i) r.parameters (sym args i)) form.typed;
+        fit = subst (λ z. FitPremises u hyps (nth_arg z) r.premises l) (sym args) (fit-more t u hyps _ r.premises l placed x form.fit);
+      }
 
   pub form-back : HasForm sig u hyps params r l → HasForm sig t hyps params r l
-  form-back form = record {
-    typed = subst (λ (z : Type 0). z) (λ i. AreTyped sig (ctx-same t u hyps hyps-known x i) r.parameters (trees-same t u params params-known x i)) form.typed;
-    fit = fit-back t u hyps (nth_arg (trees_of t params)) r.premises l placed x (subst (λ z. FitPremises u hyps (nth_arg z) r.premises l) (trees-same t u params params-known x) form.fit);
-  }
+  form-back form =
+      let ctx = ctx-same t u hyps known x in
+      let args = trees-same t u params params-known x in
+      record {
+        typed = subst (λ (z : Type 0). z) (λ i. AreTyped sig (ctx i) r.parameters (args i)) form.typed;
+        fit = fit-back t u hyps _ r.premises l placed x (subst (λ z. FitPremises u hyps (nth_arg z) r.premises l) args form.fit);
+      }

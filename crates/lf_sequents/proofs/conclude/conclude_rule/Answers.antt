@@ -25,14 +25,16 @@ returns-in_err-declared-clause-kept g c =
     let t₀ = c.args.table.now in
     let t₁ = c.declared.new.table in
     let x₁ : Extends t₀ t₁ = c.declared.ensures.extends in
-    kept-last c.args.kept.now (g.S.Signature.declares c.args.sig.now) t₀ t₁ c.requires.kept x₁ (g.met.S.Signature.same_types c.args.sig.now t₀ t₁ x₁ c.requires.holds)
+    let same = g.met.S.Signature.same_types c.args.sig.now t₀ t₁ x₁ c.requires.holds in
+    kept-last c.args.kept.now (g.S.Signature.declares c.args.sig.now) t₀ t₁ c.requires.kept x₁ same
 
 pub returns-then-is_none-clause-kept : goal.returns-then-is_none-clause-kept
 returns-then-is_none-clause-kept g c =
     let t₀ = c.args.table.now in
     let t₁ = c.declared.new.table in
     let x₁ : Extends t₀ t₁ = c.declared.ensures.extends in
-    kept-last c.args.kept.now (g.S.Signature.declares c.args.sig.now) t₀ t₁ c.requires.kept x₁ (g.met.S.Signature.same_types c.args.sig.now t₀ t₁ x₁ c.requires.holds)
+    let same = g.met.S.Signature.same_types c.args.sig.now t₀ t₁ x₁ c.requires.holds in
+    kept-last c.args.kept.now (g.S.Signature.declares c.args.sig.now) t₀ t₁ c.requires.kept x₁ same
 
 pub conclusion_term-requires-clause-params : goal.conclusion_term-requires-clause-params
 conclusion_term-requires-clause-params g c =
@@ -55,7 +57,8 @@ returns-in_err-term-clause-kept g c =
     let t₂ = c.conclusion_term.new.table in
     let x₁ : Extends t₀ t₁ = c.declared.ensures.extends in
     let x₂ : Extends t₀ t₂ = extends_trans t₀ t₁ t₂ x₁ c.conclusion_term.ensures.extends in
-    kept-last c.args.kept.now (g.S.Signature.declares c.args.sig.now) t₀ t₂ c.requires.kept x₂ (g.met.S.Signature.same_types c.args.sig.now t₀ t₂ x₂ c.requires.holds)
+    let same = g.met.S.Signature.same_types c.args.sig.now t₀ t₂ x₂ c.requires.holds in
+    kept-last c.args.kept.now (g.S.Signature.declares c.args.sig.now) t₀ t₂ c.requires.kept x₂ same
 
 pub may_have_type-requires-clause-hyps : goal.may_have_type-requires-clause-hyps
 may_have_type-requires-clause-hyps g c =
@@ -73,7 +76,8 @@ may_have_type-requires-clause-kept g c =
     let t₂ = c.conclusion_term.new.table in
     let x₁ : Extends t₀ t₁ = c.declared.ensures.extends in
     let x₂ : Extends t₀ t₂ = extends_trans t₀ t₁ t₂ x₁ c.conclusion_term.ensures.extends in
-    kept-last c.args.kept.now (g.S.Signature.declares c.args.sig.now) t₀ t₂ c.requires.kept x₂ (g.met.S.Signature.same_types c.args.sig.now t₀ t₂ x₂ c.requires.holds)
+    let same = g.met.S.Signature.same_types c.args.sig.now t₀ t₂ x₂ c.requires.holds in
+    kept-last c.args.kept.now (g.S.Signature.declares c.args.sig.now) t₀ t₂ c.requires.kept x₂ same
 
 pub returns-then-not-branch-clause-answer : goal.returns-then-not-branch-clause-answer
 returns-then-not-branch-clause-answer g c =
@@ -90,13 +94,15 @@ returns-then-not-branch-clause-answer g c =
     let r = rule_of c.in-Some.rule.now in
     let row : rule_at n ≡ Some r = sym c.in-Some.ensures in
     let placed = are_placed sig t₀ l c.requires.premises in
-    let made : tree_at t₂ c.in_ok-term.term ≡ by_rule n (trees_of t₀ params) (proofs_taken t₀ r.premises l) =
-    term-was t₀ t₁ t₂ params n r l c.in_ok-term.term c.requires.params placed x₁ c.in_ok-term.ensures.id in
+    let tree = by_rule n (trees_of t₀ params) (proofs_taken t₀ r.premises l) in
+    let id = c.in_ok-term.term in
+    let made : tree_at t₂ id ≡ tree = term-was t₀ t₁ t₂ params n r l id c.requires.params placed x₁ c.in_ok-term.ensures.id in
+    let same = g.met.S.Signature.same_types c.args.sig.now t₀ t₂ x₂ c.requires.holds in
+    let ctx = ctx-same t₀ t₂ hyps c.requires.hyps x₂ in
+    let kind = pf (form_with r.conclusion (nth_arg (trees_of t₀ params))) in
     let untyped : HasForm sig t₀ hyps params r l → Derives sig t₀ hyps params n r l → ⊥ = λ _ derives.
-    let typed = subst (λ (z : Type 0). z)
-    (λ i. Synth (sym (g.met.S.Signature.same_types c.args.sig.now t₀ t₂ x₂ c.requires.holds) i) (sym (ctx-same t₀ t₂ hyps c.requires.hyps x₂) i) (sym made i) (pf (form_with r.conclusion (nth_arg (trees_of t₀ params)))))
-    (synthesised derives) in
-    c.in_ok-may_have_type.ensures.none c.if-not-branch.true _ typed in
+    let typed = subst (λ (z : Type 0). z) (λ i. Synth (sym same i) (sym ctx i) (sym made i) kind) (synthesised derives) in
+    c.in_ok-may_have_type.ensures.none c.if-not-branch.true kind typed in
     not_derived sig t₀ c.may_have_type.new.table hyps params n r l row untyped
 
 pub has_form-requires-clause-hyps : goal.has_form-requires-clause-hyps
@@ -149,10 +155,11 @@ returns-then-not-branch-2-clause-answer g c =
     let r = rule_of c.in-Some.rule.now in
     let row : rule_at n ≡ Some r = sym c.in-Some.ensures in
     let placed = are_placed sig t₀ l c.requires.premises in
+    let same = g.met.S.Signature.same_types c.args.sig.now t₀ t₃ x₃ c.requires.holds in
     let unfit : HasForm sig t₀ hyps params r l → ⊥ = λ form.
-    let later : HasForm (g.S.Signature.declares c.args.sig.now t₃) t₃ hyps params r l =
-    subst (λ z. HasForm z t₃ hyps params r l) (sym (g.met.S.Signature.same_types c.args.sig.now t₀ t₃ x₃ c.requires.holds)) (form-more sig t₀ t₃ hyps params r l c.requires.hyps c.requires.params placed x₃ form) in
-    let yes : false ≡ true = sym c.if-not-branch-2.true ∙ c.in_ok-has_form.ensures.answer.1 later in
+    let later = form-more sig t₀ t₃ hyps params r l c.requires.hyps c.requires.params placed x₃ form in
+    let there = subst (λ z. HasForm z t₃ hyps params r l) (sym same) later in
+    let yes : false ≡ true = sym c.if-not-branch-2.true ∙ c.in_ok-has_form.ensures.answer.1 there in
     cc in
     no_form sig t₀ c.has_form.new.table hyps params n r l row unfit
 
@@ -182,9 +189,11 @@ returns-in_err-goal-clause-kept g c =
     let x₃ : Extends t₀ t₃ = extends_trans t₀ t₂ t₃ x₂ c.may_have_type.ensures.extends in
     let x₄ : Extends t₀ t₄ = extends_trans t₀ t₃ t₄ x₃ c.has_form.ensures.extends in
     let x₅ : Extends t₀ t₅ = extends_trans t₀ t₄ t₅ x₄ c.form_id.ensures.extends in
+    let after = g.S.Signature.declares c.args.sig.now in
+    let y : Extends t₄ t₅ = c.form_id.ensures.extends in
     let held = g.met.S.Signature.still_holds c.args.sig.now t₀ t₄ x₄ c.requires.holds in
-    kept-grown c.has_form.new.kept _ (g.S.Signature.declares c.args.sig.now t₄) (g.S.Signature.declares c.args.sig.now t₅) t₄ t₅ c.has_form.ensures.kept c.form_id.ensures.extends
-    (g.met.S.Signature.same_types c.args.sig.now t₄ t₅ c.form_id.ensures.extends held) c.form_id.ensures.kept refl
+    let same = g.met.S.Signature.same_types c.args.sig.now t₄ t₅ y held in
+    kept-grown c.has_form.new.kept _ (after t₄) (after t₅) t₄ t₅ c.has_form.ensures.kept y same c.form_id.ensures.kept refl
 
 pub is_proof-requires-clause-hyps : goal.is_proof-requires-clause-hyps
 is_proof-requires-clause-hyps g c =
@@ -222,18 +231,28 @@ is_proof-requires-clause-proved g c =
     let r = rule_of c.in-Some.rule.now in
     let row : rule_at n ≡ Some r = sym c.in-Some.ensures in
     let placed = are_placed sig t₀ l c.requires.premises in
+    let tree = by_rule n (trees_of t₀ params) (proofs_taken t₀ r.premises l) in
+    let id = c.in_ok-term.term in
+    let made : tree_at t₂ id ≡ tree = term-was t₀ t₁ t₂ params n r l id c.requires.params placed x₁ c.in_ok-term.ensures.id in
     let y₄ : Extends t₂ t₄ = extends_trans t₂ t₃ t₄ c.may_have_type.ensures.extends c.has_form.ensures.extends in
     let y₅ : Extends t₂ t₅ = extends_trans t₂ t₄ t₅ y₄ c.form_id.ensures.extends in
-    let made : tree_at t₂ c.in_ok-term.term ≡ by_rule n (trees_of t₀ params) (proofs_taken t₀ r.premises l) =
-    term-was t₀ t₁ t₂ params n r l c.in_ok-term.term c.requires.params placed x₁ c.in_ok-term.ensures.id in
-    let is-term : tree_at t₅ c.in_ok-term.term ≡ by_rule n (trees_of t₀ params) (proofs_taken t₀ r.premises l) = y₅.same c.in_ok-term.term c.in_ok-term.ensures.id.known ∙ made in
-    let is-goal : tree_at t₅ c.in_ok-goal.goal ≡ form_with r.conclusion (nth_arg (trees_of t₀ params)) = goal-was t₀ t₄ t₅ params r c.in_ok-goal.goal c.requires.params x₄ c.in_ok-goal.ensures.id in
-    let checked = derives-at sig (g.S.Signature.declares c.args.sig.now t₅) t₀ t₅ hyps params n r l c.in_ok-term.term c.in_ok-goal.goal (g.met.S.Signature.same_types c.args.sig.now t₀ t₅ x₅ c.requires.holds) c.requires.hyps x₅ is-term is-goal in
-    let found : (a : Tree) × (sig (Num n) ≡ Some a) = stands_some t₁ (sig (Num n)) sig n refl c.in_ok-declared.field-0 c.in_ok-declared.ensures.tree c.if-is_none.ensures in
-    let form : HasForm sig t₀ hyps params r l = form-back sig t₀ t₃ hyps params r l c.requires.hyps c.requires.params placed x₃
-    (subst (λ z. HasForm z t₃ hyps params r l) (g.met.S.Signature.same_types c.args.sig.now t₀ t₃ x₃ c.requires.holds) (c.in_ok-has_form.ensures.answer.0 c.if-not-branch-2.false)) in
+    let formula = form_with r.conclusion (nth_arg (trees_of t₀ params)) in
+    let goal-id = c.in_ok-goal.goal in
+    let is-term : tree_at t₅ id ≡ tree = y₅.same id c.in_ok-term.ensures.id.known ∙ made in
+    let is-goal : tree_at t₅ goal-id ≡ formula = goal-was t₀ t₄ t₅ params r goal-id c.requires.params x₄ c.in_ok-goal.ensures.id in
+    let same = g.met.S.Signature.same_types c.args.sig.now t₀ t₅ x₅ c.requires.holds in
+    let checked = derives-at sig (g.S.Signature.declares c.args.sig.now t₅) t₀ t₅ hyps params n r l id goal-id
+    same c.requires.hyps x₅ is-term is-goal in
+    let found : (a : Tree) × (sig (Num n) ≡ Some a) =
+    stands_some t₁ (sig (Num n)) sig n refl c.in_ok-declared.field-0 c.in_ok-declared.ensures.tree c.if-is_none.ensures in
+    let same₃ = g.met.S.Signature.same_types c.args.sig.now t₀ t₃ x₃ c.requires.holds in
+    let later : HasForm sig t₃ hyps params r l =
+    subst (λ z. HasForm z t₃ hyps params r l) same₃ (c.in_ok-has_form.ensures.answer.0 c.if-not-branch-2.false) in
+    let form : HasForm sig t₀ hyps params r l =
+    form-back sig t₀ t₃ hyps params r l c.requires.hyps c.requires.params placed x₃ later in
     let has = has_rule sig (g.met.S.Known.known c.args.sig.now t₀ c.requires.holds) n r found.0 row found.1 in
-    λ q. subst (λ (z : Type 0). z) (sym checked) (proves_conclusion sig t₀ hyps params n r l row has c.requires.premises (c.has_room-room.ensures q) form)
+    λ q. subst (λ (z : Type 0). z) (sym checked)
+    (proves_conclusion sig t₀ hyps params n r l row has c.requires.premises (c.has_room-room.ensures q) form)
 
 pub is_proof-requires-clause-kept : goal.is_proof-requires-clause-kept
 is_proof-requires-clause-kept g c =
@@ -248,9 +267,11 @@ is_proof-requires-clause-kept g c =
     let x₃ : Extends t₀ t₃ = extends_trans t₀ t₂ t₃ x₂ c.may_have_type.ensures.extends in
     let x₄ : Extends t₀ t₄ = extends_trans t₀ t₃ t₄ x₃ c.has_form.ensures.extends in
     let x₅ : Extends t₀ t₅ = extends_trans t₀ t₄ t₅ x₄ c.form_id.ensures.extends in
+    let after = g.S.Signature.declares c.args.sig.now in
+    let y : Extends t₄ t₅ = c.form_id.ensures.extends in
     let held = g.met.S.Signature.still_holds c.args.sig.now t₀ t₄ x₄ c.requires.holds in
-    kept-grown c.has_form.new.kept _ (g.S.Signature.declares c.args.sig.now t₄) (g.S.Signature.declares c.args.sig.now t₅) t₄ t₅ c.has_form.ensures.kept c.form_id.ensures.extends
-    (g.met.S.Signature.same_types c.args.sig.now t₄ t₅ c.form_id.ensures.extends held) c.form_id.ensures.kept refl
+    let same = g.met.S.Signature.same_types c.args.sig.now t₄ t₅ y held in
+    kept-grown c.has_form.new.kept _ (after t₄) (after t₅) t₄ t₅ c.has_form.ensures.kept y same c.form_id.ensures.kept refl
 
 pub returns-then-not-branch-3-clause-answer : goal.returns-then-not-branch-3-clause-answer
 returns-then-not-branch-3-clause-answer g c =
@@ -273,15 +294,21 @@ returns-then-not-branch-3-clause-answer g c =
     let r = rule_of c.in-Some.rule.now in
     let row : rule_at n ≡ Some r = sym c.in-Some.ensures in
     let placed = are_placed sig t₀ l c.requires.premises in
+    let tree = by_rule n (trees_of t₀ params) (proofs_taken t₀ r.premises l) in
+    let id = c.in_ok-term.term in
+    let made : tree_at t₂ id ≡ tree = term-was t₀ t₁ t₂ params n r l id c.requires.params placed x₁ c.in_ok-term.ensures.id in
     let y₄ : Extends t₂ t₄ = extends_trans t₂ t₃ t₄ c.may_have_type.ensures.extends c.has_form.ensures.extends in
     let y₅ : Extends t₂ t₅ = extends_trans t₂ t₄ t₅ y₄ c.form_id.ensures.extends in
-    let made : tree_at t₂ c.in_ok-term.term ≡ by_rule n (trees_of t₀ params) (proofs_taken t₀ r.premises l) =
-    term-was t₀ t₁ t₂ params n r l c.in_ok-term.term c.requires.params placed x₁ c.in_ok-term.ensures.id in
-    let is-term : tree_at t₅ c.in_ok-term.term ≡ by_rule n (trees_of t₀ params) (proofs_taken t₀ r.premises l) = y₅.same c.in_ok-term.term c.in_ok-term.ensures.id.known ∙ made in
-    let is-goal : tree_at t₅ c.in_ok-goal.goal ≡ form_with r.conclusion (nth_arg (trees_of t₀ params)) = goal-was t₀ t₄ t₅ params r c.in_ok-goal.goal c.requires.params x₄ c.in_ok-goal.ensures.id in
-    let checked = derives-at sig (g.S.Signature.declares c.args.sig.now t₅) t₀ t₅ hyps params n r l c.in_ok-term.term c.in_ok-goal.goal (g.met.S.Signature.same_types c.args.sig.now t₀ t₅ x₅ c.requires.holds) c.requires.hyps x₅ is-term is-goal in
+    let formula = form_with r.conclusion (nth_arg (trees_of t₀ params)) in
+    let goal-id = c.in_ok-goal.goal in
+    let is-term : tree_at t₅ id ≡ tree = y₅.same id c.in_ok-term.ensures.id.known ∙ made in
+    let is-goal : tree_at t₅ goal-id ≡ formula = goal-was t₀ t₄ t₅ params r goal-id c.requires.params x₄ c.in_ok-goal.ensures.id in
+    let same = g.met.S.Signature.same_types c.args.sig.now t₀ t₅ x₅ c.requires.holds in
+    let checked = derives-at sig (g.S.Signature.declares c.args.sig.now t₅) t₀ t₅ hyps params n r l id goal-id
+    same c.requires.hyps x₅ is-term is-goal in
     let unproved : HasForm sig t₀ hyps params r l → Derives sig t₀ hyps params n r l → ⊥ = λ _ derives.
-    let yes : false ≡ true = sym c.if-not-branch-3.true ∙ c.in_ok-is_proof.ensures.exact.1 (subst (λ (z : Type 0). z) (sym checked) derives) in
+    let there = subst (λ (z : Type 0). z) (sym checked) derives in
+    let yes : false ≡ true = sym c.if-not-branch-3.true ∙ c.in_ok-is_proof.ensures.exact.1 there in
     cc in
     not_derived sig t₀ c.is_proof.new.table hyps params n r l row unproved
 
@@ -308,23 +335,34 @@ returns-clause-answer g c =
     let r = rule_of c.in-Some.rule.now in
     let row : rule_at n ≡ Some r = sym c.in-Some.ensures in
     let placed = are_placed sig t₀ l c.requires.premises in
+    let tree = by_rule n (trees_of t₀ params) (proofs_taken t₀ r.premises l) in
+    let id = c.in_ok-term.term in
+    let made : tree_at t₂ id ≡ tree = term-was t₀ t₁ t₂ params n r l id c.requires.params placed x₁ c.in_ok-term.ensures.id in
     let y₄ : Extends t₂ t₄ = extends_trans t₂ t₃ t₄ c.may_have_type.ensures.extends c.has_form.ensures.extends in
     let y₅ : Extends t₂ t₅ = extends_trans t₂ t₄ t₅ y₄ c.form_id.ensures.extends in
-    let made : tree_at t₂ c.in_ok-term.term ≡ by_rule n (trees_of t₀ params) (proofs_taken t₀ r.premises l) =
-    term-was t₀ t₁ t₂ params n r l c.in_ok-term.term c.requires.params placed x₁ c.in_ok-term.ensures.id in
-    let is-term : tree_at t₅ c.in_ok-term.term ≡ by_rule n (trees_of t₀ params) (proofs_taken t₀ r.premises l) = y₅.same c.in_ok-term.term c.in_ok-term.ensures.id.known ∙ made in
-    let is-goal : tree_at t₅ c.in_ok-goal.goal ≡ form_with r.conclusion (nth_arg (trees_of t₀ params)) = goal-was t₀ t₄ t₅ params r c.in_ok-goal.goal c.requires.params x₄ c.in_ok-goal.ensures.id in
-    let checked = derives-at sig (g.S.Signature.declares c.args.sig.now t₅) t₀ t₅ hyps params n r l c.in_ok-term.term c.in_ok-goal.goal (g.met.S.Signature.same_types c.args.sig.now t₀ t₅ x₅ c.requires.holds) c.requires.hyps x₅ is-term is-goal in
-    let found : (a : Tree) × (sig (Num n) ≡ Some a) = stands_some t₁ (sig (Num n)) sig n refl c.in_ok-declared.field-0 c.in_ok-declared.ensures.tree c.if-is_none.ensures in
-    let form : HasForm sig t₀ hyps params r l = form-back sig t₀ t₃ hyps params r l c.requires.hyps c.requires.params placed x₃
-    (subst (λ z. HasForm z t₃ hyps params r l) (g.met.S.Signature.same_types c.args.sig.now t₀ t₃ x₃ c.requires.holds) (c.in_ok-has_form.ensures.answer.0 c.if-not-branch-2.false)) in
+    let formula = form_with r.conclusion (nth_arg (trees_of t₀ params)) in
+    let goal-id = c.in_ok-goal.goal in
+    let is-term : tree_at t₅ id ≡ tree = y₅.same id c.in_ok-term.ensures.id.known ∙ made in
+    let is-goal : tree_at t₅ goal-id ≡ formula = goal-was t₀ t₄ t₅ params r goal-id c.requires.params x₄ c.in_ok-goal.ensures.id in
+    let same = g.met.S.Signature.same_types c.args.sig.now t₀ t₅ x₅ c.requires.holds in
+    let checked = derives-at sig (g.S.Signature.declares c.args.sig.now t₅) t₀ t₅ hyps params n r l id goal-id
+    same c.requires.hyps x₅ is-term is-goal in
+    let found : (a : Tree) × (sig (Num n) ≡ Some a) =
+    stands_some t₁ (sig (Num n)) sig n refl c.in_ok-declared.field-0 c.in_ok-declared.ensures.tree c.if-is_none.ensures in
+    let same₃ = g.met.S.Signature.same_types c.args.sig.now t₀ t₃ x₃ c.requires.holds in
+    let later : HasForm sig t₃ hyps params r l =
+    subst (λ z. HasForm z t₃ hyps params r l) same₃ (c.in_ok-has_form.ensures.answer.0 c.if-not-branch-2.false) in
+    let form : HasForm sig t₀ hyps params r l =
+    form-back sig t₀ t₃ hyps params r l c.requires.hyps c.requires.params placed x₃ later in
     let last : Extends t₅ t₆ = c.is_proof.ensures.extends in
-    let derives : Derives sig t₀ hyps params n r l = subst (λ (z : Type 0). z) checked (c.in_ok-is_proof.ensures.exact.0 c.if-not-branch-3.false) in
-    let term-known : IsKnown t₅ c.in_ok-term.term = omega (arith, c.in_ok-term.ensures.id.known, y₅.longer) in
-    let same : c.in_ok-hyps.hyps.items ≡ hyps = search rules in
-    let s : Sequent = record { hyps = c.in_ok-hyps.hyps; goal = c.in_ok-goal.goal; term = c.in_ok-term.term } in
-    subst (λ o. IsRowAnswer sig t₀ t₆ hyps params n o l (Some s)) (sym (the_rule sig n r found.0 row found.1)) (
-      form,
-      concluded sig t₀ t₆ hyps params n r l s c.requires.hyps x₆ same (omega (arith, c.in_ok-goal.ensures.id.known, last.longer)) (last.same c.in_ok-goal.goal c.in_ok-goal.ensures.id.known ∙ is-goal)
-          (omega (arith, c.in_ok-term.ensures.id.known, y₅.longer, last.longer)) (last.same c.in_ok-term.term term-known ∙ is-term) derives,
-    )
+    let derives : Derives sig t₀ hyps params n r l =
+    subst (λ (z : Type 0). z) checked (c.in_ok-is_proof.ensures.exact.0 c.if-not-branch-3.false) in
+    let term-known : IsKnown t₅ id = omega (arith, c.in_ok-term.ensures.id.known, y₅.longer) in
+    let term-there : IsKnown t₆ id = omega (arith, term-known, last.longer) in
+    let goal-known : IsKnown t₅ goal-id = c.in_ok-goal.ensures.id.known in
+    let goal-there : IsKnown t₆ goal-id = omega (arith, goal-known, last.longer) in
+    let same-hyps : c.in_ok-hyps.hyps.items ≡ hyps = search rules in
+    let s : Sequent = record { hyps = c.in_ok-hyps.hyps; goal = goal-id; term = id } in
+    let concludes = concluded sig t₀ t₆ hyps params n r l s c.requires.hyps x₆ same-hyps
+    goal-there (last.same goal-id goal-known ∙ is-goal) term-there (last.same id term-known ∙ is-term) derives in
+    subst (λ o. IsRowAnswer sig t₀ t₆ hyps params n o l (Some s)) (sym (the_rule sig n r found.0 row found.1)) (form, concludes)

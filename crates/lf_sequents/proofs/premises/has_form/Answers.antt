@@ -9,10 +9,12 @@ use Rattle.lf_sequents.proofs.Fitting.{placeds-more, fit-more, fit-back, if_ok_i
 use Rattle.lf_sequents.proofs.premises.has_form.Goals as goal
 
 pub do_fit-requires-clause-params : goal.do_fit-requires-clause-params
-do_fit-requires-clause-params g c = known-more c.args.table.now c.are_typed.new.table c.args.params.now c.requires.params c.are_typed.ensures.extends
+do_fit-requires-clause-params g c =
+    known-more c.args.table.now c.are_typed.new.table c.args.params.now c.requires.params c.are_typed.ensures.extends
 
 pub do_fit-requires-clause-premises : goal.do_fit-requires-clause-premises
-do_fit-requires-clause-premises g c = placeds-more c.args.table.now c.are_typed.new.table _ c.requires.premises c.are_typed.ensures.extends
+do_fit-requires-clause-premises g c =
+    placeds-more c.args.table.now c.are_typed.new.table _ c.requires.premises c.are_typed.ensures.extends
 
 pub returns-clause-kept : goal.returns-clause-kept
 returns-clause-kept g c =
@@ -20,8 +22,9 @@ returns-clause-kept g c =
     let t₁ = c.are_typed.new.table in
     let u = c.do_fit.new.table in
     let held = g.met.S.Signature.still_holds c.args.sig.now t₀ t₁ c.are_typed.ensures.extends c.requires.holds in
-    kept-grown c.are_typed.new.kept _ (g.S.Signature.declares c.args.sig.now t₁) (g.S.Signature.declares c.args.sig.now u) t₁ u c.are_typed.ensures.kept c.do_fit.ensures.extends
-    (g.met.S.Signature.same_types c.args.sig.now t₁ u c.do_fit.ensures.extends held) c.do_fit.ensures.kept refl
+    let after = g.S.Signature.declares c.args.sig.now in
+    let same = g.met.S.Signature.same_types c.args.sig.now t₁ u c.do_fit.ensures.extends held in
+    kept-grown c.are_typed.new.kept _ (after t₁) (after u) t₁ u c.are_typed.ensures.kept c.do_fit.ensures.extends same c.do_fit.ensures.kept refl
 
 pub returns-clause-answer : goal.returns-clause-answer
 returns-clause-answer g c =
@@ -34,7 +37,11 @@ returns-clause-answer g c =
     let l = sequents_of c.args.premises.now in
     let args = nth_arg (trees_of t₀ params) in
     let typed = c.in_ok-are_typed.ensures.answer.0 c.if-not-branch.false in
+    let placed = c.requires.premises in
     let fit : IfOk c.do_fit.result (λ b. IsTrue b ↔ FitPremises t₁ hyps args r.premises l) =
-    subst (λ z. IfOk c.do_fit.result (λ b. IsTrue b ↔ FitPremises t₁ hyps (nth_arg z) r.premises l)) (trees-same t₀ t₁ params c.requires.params x) c.do_fit.ensures.answer in
-    if_ok_iff c.do_fit.result _ (HasForm (g.S.Signature.declares c.args.sig.now t₀) t₀ hyps params r l)
-    (λ b e. (λ q. record { typed = typed; fit = fit-back t₀ t₁ hyps args r.premises l c.requires.premises x (e.0 q) }, λ form. e.1 (fit-more t₀ t₁ hyps args r.premises l c.requires.premises x form.fit))) fit
+    subst (λ z. IfOk c.do_fit.result (λ b. IsTrue b ↔ FitPremises t₁ hyps (nth_arg z) r.premises l))
+    (trees-same t₀ t₁ params c.requires.params x) c.do_fit.ensures.answer in
+    if_ok_iff c.do_fit.result _ (HasForm (g.S.Signature.declares c.args.sig.now t₀) t₀ hyps params r l) (λ b e. (
+      λ q. record { typed = typed; fit = fit-back t₀ t₁ hyps args r.premises l placed x (e.0 q) },
+      λ form. e.1 (fit-more t₀ t₁ hyps args r.premises l placed x form.fit),
+    )) fit
