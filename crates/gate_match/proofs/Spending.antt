@@ -8,8 +8,8 @@ use Rattle.hereditary_subst.specs.declared.exhausted.Exhausted.TheVariants as ex
 use Rattle.vcgen.specs.declared.fault.VcFault.{VcFault}
 use Rattle.vcgen.specs.Answers.{shortage_of, SpendsVc}
 
-pub fault-spent : {A B : Type 0} (t : TableView) (old new : Memo) (what : Exhausted)
-    → SpendsResults {A = B} t old new (Err what) → (r : Result A VcFault)
+pub fault-spent : {A : Type 0} (t : TableView) (old new : Memo) (what : Exhausted)
+    → SpendsResults {A = A} t old new (Err what) → (r : Result A VcFault)
     → IsErrAnd r (λ f. f ≡ shortage_of what) → SpendsVc t old new r
 fault-spent t old new what s (Ok x) k = absurd k
 fault-spent t old new exhausted.Memory s (Err f) k = (s.0, s.1, λ e. absurd (cc))

@@ -1,4 +1,4 @@
-use Rattle.std.proofs.Common.{false≢true}
+use Rattle.std.proofs.lemmas.Bool.{false≢true}
 use Rattle.proof_container.specs.Views.{contents_of}
 use Rattle.pcc_gate.proofs.Stages.{rest-passed}
 use Rattle.pcc_gate.proofs.passing.pass.Goals as goal

@@ -1,4 +1,5 @@
-use Rattle.std.proofs.Common.{◌≡◌, ◌≤◌, List, map, None, sym, ◌∙◌, ap, subst, false≢true}
+use Rattle.std.proofs.Common.{◌≡◌, ◌≤◌, List, map, None, sym, ◌∙◌, ap, subst}
+use Rattle.std.proofs.lemmas.Bool.{false≢true}
 use Rattle.alpha_cfg.specs.Cuts.{unfolded_of}
 use Rattle.alpha_cfg.specs.Deciding.{uncut_of}
 use Rattle.term_table.specs.Tree.{Tree}
