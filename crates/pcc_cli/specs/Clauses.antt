@@ -1,5 +1,6 @@
 -- What a run of each command did, whatever the files hold: a definition for each clause of `pcc`.
-use Rattle.std.specs.Prelude.{◌≡◌, ℕ, List, [], ◌∷◌, ◌++◌, Option, None, Some, String, map, string_bytes}
+use Rattle.std.specs.Prelude.{◌≡◌, ℕ, List, [], ◌∷◌, ◌++◌, Option, None, Some, String}
+use Rattle.std.specs.Prelude.{map, string_bytes}
 use Rattle.std.specs.Borrow.{MutBor}
 use denote.Triple.Both.{Both}
 use Rattle.file_port.specs.Events.{Event, was_read, was_written, was_put}
@@ -51,8 +52,8 @@ abbrev pub Under : Option PolicyView → (PolicyView → List Event → Exit →
 Under None May = EndsAtOnce (refused unknown_policy_line)
 Under (Some policy) May = May policy
 
--- A run of `pcc` keeps a clause, which says something of its words, of the log of its files and of
--- its output, each as it was before the run and as it is after it, and of the status.
+-- A run of `pcc` keeps a clause on its words, on the log of its files and the state of its output,
+-- each as it was before the run (`entry`) and is after it (`exit`), and on the status.
 abbrev pub RunKeeps : {F S A : Type 0} → (F → List Event) → (S → SinkState) → List (String A)
     → Both (MutBor F) (MutBor F) → Both (MutBor S) (MutBor S) → ℕ
     → (List (List ℕ) → List Event → List Event → SinkState → SinkState → ℕ → Type 0) → Type 0
@@ -128,7 +129,7 @@ module _ (words : List (List ℕ)) (e e' : List Event) (s t : SinkState) (status
       (Makes input output MAX_PROGRAM_FILE CompilesExactly
       (ToldOf IsNoProgram input bpf_too_long_line))
 
--- the same, of what is judged by this verdict
+-- such a run, of a command that judges FILE by this verdict
 module _ (Judges : Verdict) (words : List (List ℕ)) (e e' : List Event) (s t : SinkState)
     (status : ℕ) where
   -- `check POLICY FILE`
