@@ -4,6 +4,7 @@ use Rattle.term_table.specs.Tree.{Tree, Const, Num, Lam, Pi}
 use Rattle.term_table.specs.Table.{TableView, IsKnown, AllKnown, tree_at, put_last, ctx_of, Extends}
 use Rattle.lf_signature.specs.Terms.{exp, mem, pf}
 use Rattle.lf_signature.specs.Rules.{Sort, Premise, Plain, Under, ForExp, ForMem, Rule, rule_type}
+use Rattle.lf_signature.specs.Nodes.{IsIdOf}
 use Rattle.lf_signature.specs.Typing.{Checks, lam_checks}
 use Rattle.lf_signature.specs.Constants.{rule_at}
 use Rattle.lf_check.proofs.TypeLists.{ctx-push}
@@ -13,11 +14,12 @@ use Rattle.lf_terms.proofs.Typed.{bounded}
 use Rattle.lf_terms.proofs.Use.{rule_checks}
 use Rattle.lf_sequents.specs.declared.sequent.Sequent.{Sequent}
 use Rattle.lf_terms.specs.Instance.{trees_of}
-use Rattle.lf_sequents.specs.Sequents.{IsSequent, AreSequents}
-use Rattle.lf_sequents.specs.Answers.{AreTyped, Binds, FitsPremise, FitPremises, proof_taken, proofs_taken, HasForm, Concludes}
-use Rattle.lf_sequents.specs.Room.{AreShallow, terms_of, HasVarRoom}
-use Rattle.lf_terms.proofs.Grown.{known-more}
-use Rattle.lf_sequents.proofs.Fitting.{ctx-same}
+use Rattle.lf_sequents.specs.Sequents.{AreOfTable, IsSequent, AreSequents}
+use Rattle.lf_sequents.specs.Answers.{AreTyped, Binds, FitsPremise, FitPremises, proof_taken, proofs_taken, HasForm, Concludes, Derives}
+use Rattle.lf_sequents.specs.Room.{raised_by, AreShallow, terms_of, HasVarRoom}
+use Rattle.lf_terms.proofs.Grown.{known-more, trees-same}
+use Rattle.lf_terms.proofs.Shifts.{shift-none}
+use Rattle.lf_sequents.proofs.Fitting.{ctx-same, proofs-same}
 
 ctx-length : (t : TableView) (ids : List ℕ) → length (ctx_of t ids) ≡ length ids
 ctx-length t ids = go ids [] ∙ omega arith
@@ -67,9 +69,36 @@ proves_conclusion sig t hyps params n r l e has k room form =
     (arguments_ready sig (ctx_of t hyps) room.depth few r.parameters (trees_of t params) form.typed room.parameters)
     (proofs_ready sig t hyps room.depth few (nth_arg (trees_of t params)) r.premises l k form.fit room.proofs)
 
-pub concluded : (sig : Const → Option Tree) (t u : TableView) (hyps params : List ℕ) (n : ℕ) (r : Rule) (l : List Sequent) (s : Sequent) → rule_at n ≡ Some r → sig (Num n) ≡ Some (rule_type r) → AllKnown t hyps → AreSequents sig t l → HasVarRoom t hyps params l → HasForm sig t hyps params r l →
-    Extends t u → s.hyps.items ≡ hyps → IsKnown u s.goal → tree_at u s.goal ≡ form_with r.conclusion (nth_arg (trees_of t params)) → IsKnown u s.term → tree_at u s.term ≡ by_rule n (trees_of t params) (proofs_taken t r.premises l) → Concludes sig t u hyps params n r l s
-concluded sig t u hyps params n r l s e has known k room form x same goal-known goal term-known term =
+-- the conclusion's term, made over a later table, is of the trees in the first
+pub term-was : (t u v : TableView) (params : List ℕ) (n : ℕ) (r : Rule) (l : List Sequent) (id : ℕ)
+    → AllKnown t params → AreOfTable t l → Extends t u → IsIdOf v (by_rule n (trees_of u params) (proofs_taken u r.premises l)) id
+    → tree_at v id ≡ by_rule n (trees_of t params) (proofs_taken t r.premises l)
+term-was t u v params n r l id known placed x made =
+    made.is ∙ (λ i. by_rule n (trees-same t u params known x i) (proofs-same t u r.premises l placed x i))
+
+-- and so is its formula
+pub goal-was : (t u v : TableView) (params : List ℕ) (r : Rule) (id : ℕ)
+    → AllKnown t params → Extends t u → IsIdOf v (form_with r.conclusion (raised_by 0 (nth_arg (trees_of u params)))) id
+    → tree_at v id ≡ form_with r.conclusion (nth_arg (trees_of t params))
+goal-was t u v params r id known x made =
+    made.is ∙ (λ i. form_with r.conclusion (λ j. shift-none (nth_arg (trees-same t u params known x i) j) 0 i))
+
+-- that the conclusion's term checks is what is checked of it in a later table
+pub derives-at : (sig after : Const → Option Tree) (t u : TableView) (hyps params : List ℕ) (n : ℕ) (r : Rule) (l : List Sequent)
+    (term goal : ℕ) → after ≡ sig → AllKnown t hyps → Extends t u
+    → tree_at u term ≡ by_rule n (trees_of t params) (proofs_taken t r.premises l)
+    → tree_at u goal ≡ form_with r.conclusion (nth_arg (trees_of t params))
+    → Checks after (ctx_of u hyps) (tree_at u term) (pf (tree_at u goal)) ≡ Derives sig t hyps params n r l
+derives-at sig after t u hyps params n r l term goal same known x is-term is-goal =
+    λ i. Checks (same i) (ctx-same t u hyps known x i) (is-term i) (pf (is-goal i))
+
+-- where it checks, it gives the sequent
+pub concluded : (sig : Const → Option Tree) (t u : TableView) (hyps params : List ℕ) (n : ℕ) (r : Rule) (l : List Sequent) (s : Sequent)
+    → AllKnown t hyps → Extends t u → s.hyps.items ≡ hyps
+    → IsKnown u s.goal → tree_at u s.goal ≡ form_with r.conclusion (nth_arg (trees_of t params))
+    → IsKnown u s.term → tree_at u s.term ≡ by_rule n (trees_of t params) (proofs_taken t r.premises l)
+    → Derives sig t hyps params n r l → Concludes sig t u hyps params n r l s
+concluded sig t u hyps params n r l s known x same goal-known goal term-known term derives =
     let ctx : ctx_of t hyps ≡ ctx_of u s.hyps.items = sym (ap (ctx_of u) same ∙ ctx-same t u hyps known x) in
     record {
       hyps = same;
@@ -81,6 +110,6 @@ concluded sig t u hyps params n r l s e has known k room form x same goal-known 
           goal = goal-known;
           term = term-known;
         };
-        proves = subst (λ (z : Type 0). z) (λ i. Checks sig (ctx i) (sym term i) (pf (sym goal i))) (proves_conclusion sig t hyps params n r l e has k room form);
+        proves = subst (λ (z : Type 0). z) (λ i. Checks sig (ctx i) (sym term i) (pf (sym goal i))) derives;
       };
     }

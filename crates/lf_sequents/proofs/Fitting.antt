@@ -4,14 +4,14 @@ use Rattle.std.proofs.Common.{◌≡◌, ◌↔◌, ◌==◌, ◌<◌, Bool, IfO
 use Rattle.term_table.specs.Tree.{Tree, Const}
 use Rattle.term_table.specs.Table.{TableView, IsKnown, AllKnown, tree_at, put_last, ctx_of, Extends}
 use Rattle.lf_signature.specs.Terms.{exp, mem, pf}
-use Rattle.lf_signature.specs.Rules.{Sort, sort_type, Premise, Plain, Under, ForExp, ForMem}
+use Rattle.lf_signature.specs.Rules.{Sort, sort_type, Premise, Plain, Under, ForExp, ForMem, Rule}
 use Rattle.lf_signature.specs.Typing.{Checks, atom_checks}
 use Rattle.lf_signature.specs.Laws.Decided.{synth_unique}
-use Rattle.lf_terms.specs.Instance.{form_with}
+use Rattle.lf_terms.specs.Instance.{nth_arg, form_with}
 use Rattle.lf_sequents.specs.declared.sequent.Sequent.{Sequent}
 use Rattle.lf_sequents.specs.Sequents.{IsOfTable, AreOfTable, IsSequent, AreSequents}
-use Rattle.lf_sequents.specs.Answers.{AreTyped, Binds, FitsPremise, FitPremises, proof_taken, proofs_taken}
-use Rattle.lf_terms.proofs.Grown.{known-more}
+use Rattle.lf_sequents.specs.Answers.{AreTyped, Binds, FitsPremise, FitPremises, proof_taken, proofs_taken, HasForm}
+use Rattle.lf_terms.proofs.Grown.{known-more, trees-same}
 
 -- a context stays as the table grows
 pub ctx-same : (t u : TableView) (ids : List ℕ) → AllKnown t ids → Extends t u → ctx_of u ids ≡ ctx_of t ids
@@ -119,3 +119,24 @@ one_formula sig (atom_checks h i) (atom_checks k j) = same (synth_unique sig h k
   where
     same : {a b : Tree} → pf a ≡ pf b → a ≡ b
     same e = cc
+
+-- parameters and premises have the form in a later table exactly where they had it
+module _ (sig : Const → Option Tree) (t u : TableView) (hyps params : List ℕ) (r : Rule) (l : List Sequent) (known : AllKnown t hyps)
+    (params-known : AllKnown t params) (placed : AreOfTable t l) (x : Extends t u) where
+  pub form-more : HasForm sig t hyps params r l → HasForm sig u hyps params r l
+  form-more form =
+      let ctx = ctx-same t u hyps known x in
+      let args = trees-same t u params params-known x in
+      record {
+        typed = subst (λ (z : Type 0). z) (λ i. AreTyped sig (sym ctx i) r.parameters (sym args i)) form.typed;
+        fit = subst (λ z. FitPremises u hyps (nth_arg z) r.premises l) (sym args) (fit-more t u hyps _ r.premises l placed x form.fit);
+      }
+
+  pub form-back : HasForm sig u hyps params r l → HasForm sig t hyps params r l
+  form-back form =
+      let ctx = ctx-same t u hyps known x in
+      let args = trees-same t u params params-known x in
+      record {
+        typed = subst (λ (z : Type 0). z) (λ i. AreTyped sig (ctx i) r.parameters (args i)) form.typed;
+        fit = fit-back t u hyps _ r.premises l placed x (subst (λ z. FitPremises u hyps (nth_arg z) r.premises l) args form.fit);
+      }

@@ -3,22 +3,22 @@
 ghost use Rattle.std.specs.Prelude.{◌≡◌, ◌↔◌, false, ◌≤◌, ◌<◌, ◌+◌, ◌^◌, IfOk, IsTrue, map, length};
 ghost use Rattle.term_table.specs.Tree.{Tree, apps};
 ghost use Rattle.term_table.specs.Table.{IsKnown, AllKnown, tree_at, ctx_of, Extends};
-ghost use Rattle.lf_signature.specs.Schemas.{premise_of};
+ghost use Rattle.lf_signature.specs.Schemas.{premise_of, rule_of};
 ghost use Rattle.lf_signature.specs.Nodes.{IsIdOf};
 ghost use Rattle.lf_signature.specs.Terms.{pf};
 ghost use Rattle.lf_signature.specs.Typing.{Checks, Synth};
 ghost use Rattle.hereditary_subst.specs.Limits.{is_limited, limit_of};
 ghost use Rattle.lf_check.specs.Kept.{AreKept};
-ghost use Rattle.lf_terms.specs.Instance.{trees_of};
+ghost use Rattle.lf_terms.specs.Instance.{trees_of, by_rule};
 ghost use Rattle.lf_sequents.specs.Sequents.{AreOfTable, AreSequents};
 ghost use Rattle.lf_sequents.specs.Answers.{proof_taken, proofs_taken, IsRuleAnswer};
 ghost use Rattle.lf_sequents.specs.Room.{sequents_of, terms_of, AreShallow, HasVarRoom};
 
 use crate::instance::form_id;
-use crate::premises::{are_typed, do_fit};
+use crate::premises::has_form;
 use crate::sequent::Sequent;
 use lf_check::{Kept, check_term_with, synth_with};
-use lf_signature::schema::Premise;
+use lf_signature::schema::{Premise, Rule};
 use lf_signature::{Known, Signature, declared, pf, rule_at};
 use lf_terms::rule_term;
 use std::alloc::{AllocError, Global};
@@ -101,13 +101,35 @@ fn with_proofs(
     }
 }
 
-/// Whether the term has a type. It has none if a shift or a substitution in that type has no result.
-fn has_type<S: Signature>(
+/// The term of the rule's conclusion: its constant at the parameters and the premises' proofs.
+fn conclusion_term(
+    table: &mut Table,
+    number: u32,
+    rule: &Rule,
+    params: &[Id],
+    premises: &[&Sequent],
+) -> Result<Id, AllocError>
+    requires params { AllKnown table.old params.now }
+    requires premises { AreOfTable table.old (sequents_of premises.now) }
+    ensures id { let proofs =
+        proofs_taken table.old (rule_of rule.now).premises (sequents_of premises.now) in
+        IfOk result
+        (IsIdOf table.new (by_rule number (trees_of table.old params.now) proofs)) }
+    ensures extends { Extends table.old table.new }
+{
+    let head = rule_term(table, number, params)?;
+    with_proofs(table, head, rule.premises, premises)
+}
+
+/// Whether the term may have a type: true if there is room. It has none if a shift or a substitution
+/// in that type has no result.
+fn may_have_type<S: Signature>(
     table: &mut Table,
     kept: &mut Kept,
     sig: &S,
     hyps: &[Id],
     term: Id,
+    room: bool,
 ) -> Result<bool, AllocError>
     requires holds { S.holds sig.now table.old }
     requires hyps { AllKnown table.old hyps.now }
@@ -121,6 +143,9 @@ fn has_type<S: Signature>(
     ensures kept { AreKept (S.declares sig.now table.new) table.new kept.new }
     ensures unlimited { is_limited kept.new.memo ≡ false }
 {
+    if room {
+        return Ok(true);
+    }
     match synth_with(table, kept, sig, hyps, term) {
         Ok(None) => Ok(false),
         Ok(Some(_)) => Ok(true),
@@ -128,7 +153,7 @@ fn has_type<S: Signature>(
     }
 }
 
-/// Whether the term is a proof of the formula.
+/// Whether the term is a proof of the formula. If there is room, it is one, and isn't checked.
 fn is_proof<S: Signature>(
     table: &mut Table,
     kept: &mut Kept,
@@ -136,11 +161,15 @@ fn is_proof<S: Signature>(
     hyps: &[Id],
     term: Id,
     goal: Id,
+    room: bool,
 ) -> Result<bool, AllocError>
     requires holds { S.holds sig.now table.old }
     requires hyps { AllKnown table.old hyps.now }
     requires term { IsKnown table.old term }
     requires goal { IsKnown table.old goal }
+    requires proved { let ctx = ctx_of table.old hyps.now in
+        let proofs = pf (tree_at table.old goal) in
+        IsTrue room → Checks (S.declares sig.now table.old) ctx (tree_at table.old term) proofs }
     requires kept { AreKept (S.declares sig.now table.old) table.old kept.old }
     requires unlimited { is_limited kept.old.memo ≡ false }
     ensures exact { let ctx = ctx_of table.old hyps.now in
@@ -149,8 +178,10 @@ fn is_proof<S: Signature>(
         IfOk result (λ b. IsTrue b ↔ holds) }
     ensures extends { Extends table.old table.new }
     ensures kept { AreKept (S.declares sig.now table.new) table.new kept.new }
-    ensures unlimited { is_limited kept.new.memo ≡ false }
 {
+    if room {
+        return Ok(true);
+    }
     let proofs = pf(table, goal)?;
     match check_term_with(table, kept, sig, hyps, term, proofs) {
         Ok(proves) => Ok(proves),
@@ -158,57 +189,8 @@ fn is_proof<S: Signature>(
     }
 }
 
-/// The answer of `by_rule` if a variable might reach 2^32: the term of the conclusion is made first,
-/// and checked. If it has no type, there is no sequent, and no formula is made.
-fn conclude_by_check<S: Known>(
-    alloc: Global,
-    table: &mut Table,
-    sig: &S,
-    kept: &mut Kept,
-    hyps: &[Id],
-    number: u32,
-    params: &[Id],
-    premises: &[&Sequent],
-) -> Result<Option<Sequent>, AllocError>
-    requires holds { S.Signature.holds sig.now table.old }
-    requires hyps { AllKnown table.old hyps.now }
-    requires params { AllKnown table.old params.now }
-    requires premises { AreSequents (S.Signature.declares sig.now table.old) table.old
-        (sequents_of premises.now) }
-    requires kept { AreKept (S.Signature.declares sig.now table.old) table.old kept.old }
-    requires unlimited { is_limited kept.old.memo ≡ false }
-    ensures answer { let sig = S.Signature.declares sig.now table.old in
-        IfOk result (IsRuleAnswer number sig table.old table.new hyps.now params.now
-        (sequents_of premises.now)) }
-    ensures extends { Extends table.old table.new }
-    ensures kept { AreKept (S.Signature.declares sig.now table.new) table.new kept.new }
-{
-    let Some(rule) = rule_at(number) else {
-        return Ok(None);
-    };
-    if declared(table, sig, Node::Const(number))?.is_none() {
-        return Ok(None);
-    }
-    let head = rule_term(table, number, params)?;
-    let term = with_proofs(table, head, rule.premises, premises)?;
-    if !has_type(table, kept, sig, hyps, term)? {
-        return Ok(None);
-    }
-    if !are_typed(table, kept, sig, hyps, rule.parameters, params)? {
-        return Ok(None);
-    }
-    if !do_fit(table, &mut kept.memo, hyps, params, rule.premises, premises)? {
-        return Ok(None);
-    }
-    let goal = form_id(table, &mut kept.memo, params, 0, &rule.conclusion)?;
-    if !is_proof(table, kept, sig, hyps, term, goal)? {
-        return Ok(None);
-    }
-    let hyps = hyps.to_vec(alloc)?;
-    Ok(Some(Sequent { hyps, goal, term }))
-}
-
-/// The answer of `by_rule`, with cached results that have no limit.
+/// The answer of `by_rule`, with cached results that have no limit. If a variable might reach 2^32,
+/// the term is checked: first whether it has a type, before any formula is made.
 fn conclude_rule<S: Known>(
     alloc: Global,
     table: &mut Table,
@@ -235,19 +217,19 @@ fn conclude_rule<S: Known>(
     let Some(rule) = rule_at(number) else {
         return Ok(None);
     };
-    if !has_room(table, hyps, params, premises) {
-        return conclude_by_check(alloc, table, sig, kept, hyps, number, params, premises);
-    }
-    if !are_typed(table, kept, sig, hyps, rule.parameters, params)? {
+    let room = has_room(table, hyps, params, premises);
+    if declared(table, sig, Node::Const(number))?.is_none() {
         return Ok(None);
     }
-    if !do_fit(table, &mut kept.memo, hyps, params, rule.premises, premises)? {
+    let term = conclusion_term(table, number, rule, params, premises)?;
+    if !may_have_type(table, kept, sig, hyps, term, room)? {
+        return Ok(None);
+    }
+    if !has_form(table, kept, sig, hyps, rule, params, premises)? {
         return Ok(None);
     }
     let goal = form_id(table, &mut kept.memo, params, 0, &rule.conclusion)?;
-    let head = rule_term(table, number, params)?;
-    let term = with_proofs(table, head, rule.premises, premises)?;
-    if declared(table, sig, Node::Const(number))?.is_none() {
+    if !is_proof(table, kept, sig, hyps, term, goal, room)? {
         return Ok(None);
     }
     let hyps = hyps.to_vec(alloc)?;

@@ -3,7 +3,7 @@
 ghost use Rattle.std.specs.Prelude.{◌≡◌, false, ◌↔◌, ◌++◌, [], ◌∷◌, IfOk, IsTrue, map};
 ghost use Rattle.term_table.specs.Table.{IsKnown, AllKnown, tree_at, ctx_of, Extends};
 ghost use Rattle.lf_signature.specs.Rules.{sort_type};
-ghost use Rattle.lf_signature.specs.Schemas.{sort_of, form_of, premise_of};
+ghost use Rattle.lf_signature.specs.Schemas.{sort_of, form_of, premise_of, rule_of};
 ghost use Rattle.lf_signature.specs.Nodes.{IsIdOf};
 ghost use Rattle.lf_signature.specs.Typing.{Checks};
 ghost use Rattle.hereditary_subst.specs.Kept.{IsMemo};
@@ -12,7 +12,7 @@ ghost use Rattle.lf_check.specs.Kept.{AreKept};
 ghost use Rattle.lf_terms.specs.Instance.{nth_arg, form_with, under_binder};
 ghost use Rattle.lf_terms.specs.Instance.{trees_of};
 ghost use Rattle.lf_sequents.specs.Sequents.{IsOfTable, AreOfTable};
-ghost use Rattle.lf_sequents.specs.Answers.{AreTyped, Binds, FitsPremise, FitPremises};
+ghost use Rattle.lf_sequents.specs.Answers.{AreTyped, Binds, FitsPremise, FitPremises, HasForm};
 ghost use Rattle.lf_sequents.specs.Room.{sequents_of};
 
 use crate::instance::form_id;
@@ -20,7 +20,7 @@ use crate::sequent::Sequent;
 use hereditary_subst::Memo;
 use lf_check::{Kept, check_term_with};
 use lf_signature::numbers::{EXP, FORM, MEM};
-use lf_signature::schema::{Form, Premise, Sort};
+use lf_signature::schema::{Form, Premise, Rule, Sort};
 use lf_signature::{Signature, pf};
 use std::alloc::AllocError;
 use term_table::{Id, Node, Table};
@@ -70,8 +70,8 @@ fn is_typed<S: Signature>(
     }
 }
 
-/// Checks whether each term checks against its parameter's type.
-pub fn are_typed<S: Signature>(
+/// Whether each term checks at its parameter's type.
+fn are_typed<S: Signature>(
     table: &mut Table,
     kept: &mut Kept,
     sig: &S,
@@ -216,8 +216,8 @@ fn fits(
     }
 }
 
-/// Checks whether each sequent has the hypotheses and the goal of its premise.
-pub fn do_fit(
+/// Whether each sequent has the hypotheses and the goal of its premise.
+fn do_fit(
     table: &mut Table,
     memo: &mut Memo,
     hyps: &[Id],
@@ -249,4 +249,36 @@ pub fn do_fit(
             }
         },
     }
+}
+
+/// Checks whether parameters and premises have the rule's form. The parameters' types come first:
+/// no formula is made of a term that has none.
+pub fn has_form<S: Signature>(
+    table: &mut Table,
+    kept: &mut Kept,
+    sig: &S,
+    hyps: &[Id],
+    rule: &Rule,
+    params: &[Id],
+    premises: &[&Sequent],
+) -> Result<bool, AllocError>
+    requires holds { S.holds sig.now table.old }
+    requires hyps { AllKnown table.old hyps.now }
+    requires params { AllKnown table.old params.now }
+    requires premises { AreOfTable table.old (sequents_of premises.now) }
+    requires kept { AreKept (S.declares sig.now table.old) table.old kept.old }
+    requires unlimited { is_limited kept.old.memo ≡ false }
+    ensures answer { let sig = S.declares sig.now table.old in
+        let rule = rule_of rule.now in
+        let holds =
+        HasForm sig table.old hyps.now params.now rule (sequents_of premises.now) in
+        IfOk result (λ b. IsTrue b ↔ holds) }
+    ensures extends { Extends table.old table.new }
+    ensures kept { AreKept (S.declares sig.now table.new) table.new kept.new }
+    ensures unlimited { is_limited kept.new.memo ≡ false }
+{
+    if !are_typed(table, kept, sig, hyps, rule.parameters, params)? {
+        return Ok(false);
+    }
+    do_fit(table, &mut kept.memo, hyps, params, rule.premises, premises)
 }

@@ -1,214 +1,368 @@
-use Rattle.std.proofs.Common.{rules, arith, ◌≡◌, ◌∙◌, true, false, Some, refl, sym, ap, subst}
-use Rattle.term_table.specs.Tree.{Tree, Con, Num, apps}
-use Rattle.term_table.specs.Table.{tree_at, Extends}
+use Rattle.std.proofs.Common.{rules, arith, ◌≡◌, ◌∙◌, true, false, Some, refl, sym, subst}
+use Rattle.term_table.specs.Tree.{Tree, Num}
+use Rattle.term_table.specs.Table.{IsKnown, tree_at, Extends}
 use Rattle.lf_signature.specs.Schemas.{rule_of}
+use Rattle.lf_signature.specs.Terms.{pf}
+use Rattle.lf_signature.specs.Typing.{Synth}
 use Rattle.lf_signature.specs.Constants.{rule_at}
 use Rattle.lf_check.proofs.Rows.{kept-grown}
-use Rattle.hereditary_subst.proofs.Rows.{memo-more}
-use Rattle.lf_terms.specs.Instance.{nth_arg, form_with, by_rule}
-use Rattle.lf_terms.proofs.Shifts.{shift-none}
-use Rattle.lf_terms.specs.Instance.{trees_of}
-use Rattle.lf_sequents.specs.Answers.{FitPremises, HasForm, IsRowAnswer, proofs_taken}
-use Rattle.lf_sequents.specs.Room.{sequents_of, HasVarRoom}
-use Rattle.lf_terms.proofs.Grown.{known-more, trees-same, extends_trans}
-use Rattle.lf_sequents.proofs.Fitting.{placeds-more, are_placed, fit-more, fit-back, proofs-same}
-use Rattle.lf_sequents.proofs.Concluding.{concluded}
-use Rattle.lf_sequents.proofs.Having.{has_rule, the_rule, no_form, stands_some}
+use Rattle.lf_terms.specs.Instance.{nth_arg, form_with, by_rule, trees_of}
+use Rattle.lf_terms.proofs.Grown.{known-more, extends_trans}
+use Rattle.lf_sequents.specs.declared.sequent.Sequent.{Sequent}
+use Rattle.lf_sequents.specs.Answers.{HasForm, Derives, IsRowAnswer, proofs_taken}
+use Rattle.lf_sequents.specs.Room.{sequents_of}
+use Rattle.lf_sequents.proofs.Lasting.{kept-last}
+use Rattle.lf_sequents.proofs.Fitting.{ctx-same, placeds-more, are_placed, form-more, form-back}
+use Rattle.lf_sequents.proofs.Concluding.{term-was, goal-was, derives-at, proves_conclusion, concluded}
+use Rattle.lf_sequents.proofs.Having.{has_rule, the_rule, not_derived, no_form, synthesised, stands_some}
 use Rattle.lf_sequents.proofs.conclude.conclude_rule.Goals as goal
 
-pub has_room-requires-clause-premises : goal.has_room-requires-clause-premises
-has_room-requires-clause-premises g c = are_placed _ _ _ c.requires.premises
-
-pub do_fit-requires-clause-params : goal.do_fit-requires-clause-params
-do_fit-requires-clause-params g c = known-more c.args.table.now c.are_typed.new.table c.args.params.now c.requires.params c.are_typed.ensures.extends
-
-pub do_fit-requires-clause-premises : goal.do_fit-requires-clause-premises
-do_fit-requires-clause-premises g c = placeds-more c.args.table.now c.are_typed.new.table _ (are_placed _ _ _ c.requires.premises) c.are_typed.ensures.extends
-
-pub returns-in_err-do_fit-clause-kept : goal.returns-in_err-do_fit-clause-kept
-returns-in_err-do_fit-clause-kept g c =
-    let t₀ = c.args.table.now in
-    let t₁ = c.are_typed.new.table in
-    let u = c.do_fit.new.table in
-    let held = g.met.S.Signature.still_holds c.args.sig.now t₀ t₁ c.are_typed.ensures.extends c.requires.holds in
-    kept-grown c.are_typed.new.kept _ (g.S.Signature.declares c.args.sig.now t₁) (g.S.Signature.declares c.args.sig.now u) t₁ u c.are_typed.ensures.kept c.do_fit.ensures.extends
-    (g.met.S.Signature.same_types c.args.sig.now t₁ u c.do_fit.ensures.extends held) c.do_fit.ensures.kept refl
-
-pub returns-then-not-branch-2-clause-kept : goal.returns-then-not-branch-2-clause-kept
-returns-then-not-branch-2-clause-kept g c =
-    let t₀ = c.args.table.now in
-    let t₁ = c.are_typed.new.table in
-    let u = c.do_fit.new.table in
-    let held = g.met.S.Signature.still_holds c.args.sig.now t₀ t₁ c.are_typed.ensures.extends c.requires.holds in
-    kept-grown c.are_typed.new.kept _ (g.S.Signature.declares c.args.sig.now t₁) (g.S.Signature.declares c.args.sig.now u) t₁ u c.are_typed.ensures.kept c.do_fit.ensures.extends
-    (g.met.S.Signature.same_types c.args.sig.now t₁ u c.do_fit.ensures.extends held) c.do_fit.ensures.kept refl
-
-pub returns-then-not-branch-2-clause-answer : goal.returns-then-not-branch-2-clause-answer
-returns-then-not-branch-2-clause-answer g c =
-    let t₀ = c.args.table.now in
-    let t₁ = c.are_typed.new.table in
-    let x : Extends t₀ t₁ = c.are_typed.ensures.extends in
-    let sig = g.S.Signature.declares c.args.sig.now t₀ in
-    let l = sequents_of c.args.premises.now in
-    let r = rule_of c.in-Some.rule.now in
-    let unfit : HasForm sig t₀ c.args.hyps.now c.args.params.now r l → ⊥ = λ form.
-    let fit : FitPremises t₁ c.args.hyps.now (nth_arg (trees_of t₁ c.args.params.now)) r.premises l =
-    subst (λ z. FitPremises t₁ c.args.hyps.now (nth_arg z) r.premises l) (sym (trees-same t₀ t₁ c.args.params.now c.requires.params x))
-    (fit-more t₀ t₁ c.args.hyps.now (nth_arg (trees_of t₀ c.args.params.now)) r.premises l (are_placed sig t₀ l c.requires.premises) x form.fit) in
-    let yes : false ≡ true = sym c.if-not-branch-2.true ∙ c.in_ok-do_fit.ensures.answer.1 fit in
-    cc in
-    no_form sig t₀ c.do_fit.new.table c.args.hyps.now c.args.params.now c.args.number r l (sym c.in-Some.ensures) unfit
-
-pub form_id-requires-clause-known : goal.form_id-requires-clause-known
-form_id-requires-clause-known g c =
-    known-more c.args.table.now c.do_fit.new.table c.args.params.now c.requires.params
-    (extends_trans c.args.table.now c.are_typed.new.table c.do_fit.new.table c.are_typed.ensures.extends c.do_fit.ensures.extends)
-
-pub returns-in_err-goal-clause-kept : goal.returns-in_err-goal-clause-kept
-returns-in_err-goal-clause-kept g c =
-    let t₀ = c.args.table.now in
-    let t₁ = c.are_typed.new.table in
-    let u = c.form_id.new.table in
-    let x = extends_trans t₁ c.do_fit.new.table u c.do_fit.ensures.extends c.form_id.ensures.extends in
-    let held = g.met.S.Signature.still_holds c.args.sig.now t₀ t₁ c.are_typed.ensures.extends c.requires.holds in
-    kept-grown c.are_typed.new.kept _ (g.S.Signature.declares c.args.sig.now t₁) (g.S.Signature.declares c.args.sig.now u) t₁ u c.are_typed.ensures.kept x
-    (g.met.S.Signature.same_types c.args.sig.now t₁ u x held) c.form_id.ensures.kept refl
-
-pub rule_term-requires : goal.rule_term-requires
-rule_term-requires g c =
-    known-more c.args.table.now c.form_id.new.table c.args.params.now c.requires.params
-    (extends_trans c.args.table.now c.are_typed.new.table c.form_id.new.table c.are_typed.ensures.extends (extends_trans c.are_typed.new.table c.do_fit.new.table c.form_id.new.table c.do_fit.ensures.extends c.form_id.ensures.extends))
-
-pub returns-in_err-head-clause-kept : goal.returns-in_err-head-clause-kept
-returns-in_err-head-clause-kept g c =
-    let t₀ = c.args.table.now in
-    let t₁ = c.are_typed.new.table in
-    let t₃ = c.form_id.new.table in
-    let u = c.rule_term.new.table in
-    let y = c.rule_term.ensures.extends in
-    let x = extends_trans t₁ t₃ u (extends_trans t₁ c.do_fit.new.table t₃ c.do_fit.ensures.extends c.form_id.ensures.extends) y in
-    let held = g.met.S.Signature.still_holds c.args.sig.now t₀ t₁ c.are_typed.ensures.extends c.requires.holds in
-    kept-grown c.are_typed.new.kept _ (g.S.Signature.declares c.args.sig.now t₁) (g.S.Signature.declares c.args.sig.now u) t₁ u c.are_typed.ensures.kept x
-    (g.met.S.Signature.same_types c.args.sig.now t₁ u x held) (memo-more c.form_id.new.memo t₃ u c.form_id.ensures.kept y) refl
-
-pub with_proofs-requires-clause-premises : goal.with_proofs-requires-clause-premises
-with_proofs-requires-clause-premises g c =
-    let t₀ = c.args.table.now in
-    let t₁ = c.are_typed.new.table in
-    let t₃ = c.form_id.new.table in
-    let u = c.rule_term.new.table in
-    placeds-more t₀ u _ (are_placed _ _ _ c.requires.premises)
-    (extends_trans t₀ t₁ u c.are_typed.ensures.extends (extends_trans t₁ t₃ u (extends_trans t₁ c.do_fit.new.table t₃ c.do_fit.ensures.extends c.form_id.ensures.extends) c.rule_term.ensures.extends))
-
-pub returns-in_err-term-clause-kept : goal.returns-in_err-term-clause-kept
-returns-in_err-term-clause-kept g c =
-    let t₀ = c.args.table.now in
-    let t₁ = c.are_typed.new.table in
-    let t₃ = c.form_id.new.table in
-    let u = c.with_proofs.new.table in
-    let y = extends_trans t₃ c.rule_term.new.table u c.rule_term.ensures.extends c.with_proofs.ensures.extends in
-    let x = extends_trans t₁ t₃ u (extends_trans t₁ c.do_fit.new.table t₃ c.do_fit.ensures.extends c.form_id.ensures.extends) y in
-    let held = g.met.S.Signature.still_holds c.args.sig.now t₀ t₁ c.are_typed.ensures.extends c.requires.holds in
-    kept-grown c.are_typed.new.kept _ (g.S.Signature.declares c.args.sig.now t₁) (g.S.Signature.declares c.args.sig.now u) t₁ u c.are_typed.ensures.kept x
-    (g.met.S.Signature.same_types c.args.sig.now t₁ u x held) (memo-more c.form_id.new.memo t₃ u c.form_id.ensures.kept y) refl
+pub has_room-room-requires-clause-premises : goal.has_room-room-requires-clause-premises
+has_room-room-requires-clause-premises g c = are_placed _ _ _ c.requires.premises
 
 pub returns-in_err-declared-clause-kept : goal.returns-in_err-declared-clause-kept
 returns-in_err-declared-clause-kept g c =
     let t₀ = c.args.table.now in
-    let t₁ = c.are_typed.new.table in
-    let t₃ = c.form_id.new.table in
-    let t₅ = c.with_proofs.new.table in
-    let u = c.declared.new.table in
-    let y = extends_trans t₃ t₅ u (extends_trans t₃ c.rule_term.new.table t₅ c.rule_term.ensures.extends c.with_proofs.ensures.extends) c.declared.ensures.extends in
-    let x = extends_trans t₁ t₃ u (extends_trans t₁ c.do_fit.new.table t₃ c.do_fit.ensures.extends c.form_id.ensures.extends) y in
-    let held = g.met.S.Signature.still_holds c.args.sig.now t₀ t₁ c.are_typed.ensures.extends c.requires.holds in
-    kept-grown c.are_typed.new.kept _ (g.S.Signature.declares c.args.sig.now t₁) (g.S.Signature.declares c.args.sig.now u) t₁ u c.are_typed.ensures.kept x
-    (g.met.S.Signature.same_types c.args.sig.now t₁ u x held) (memo-more c.form_id.new.memo t₃ u c.form_id.ensures.kept y) refl
+    let t₁ = c.declared.new.table in
+    let x₁ : Extends t₀ t₁ = c.declared.ensures.extends in
+    let same = g.met.S.Signature.same_types c.args.sig.now t₀ t₁ x₁ c.requires.holds in
+    kept-last c.args.kept.now (g.S.Signature.declares c.args.sig.now) t₀ t₁ c.requires.kept x₁ same
 
 pub returns-then-is_none-clause-kept : goal.returns-then-is_none-clause-kept
 returns-then-is_none-clause-kept g c =
     let t₀ = c.args.table.now in
-    let t₁ = c.are_typed.new.table in
-    let t₃ = c.form_id.new.table in
-    let t₅ = c.with_proofs.new.table in
-    let u = c.declared.new.table in
-    let y = extends_trans t₃ t₅ u (extends_trans t₃ c.rule_term.new.table t₅ c.rule_term.ensures.extends c.with_proofs.ensures.extends) c.declared.ensures.extends in
-    let x = extends_trans t₁ t₃ u (extends_trans t₁ c.do_fit.new.table t₃ c.do_fit.ensures.extends c.form_id.ensures.extends) y in
-    let held = g.met.S.Signature.still_holds c.args.sig.now t₀ t₁ c.are_typed.ensures.extends c.requires.holds in
-    kept-grown c.are_typed.new.kept _ (g.S.Signature.declares c.args.sig.now t₁) (g.S.Signature.declares c.args.sig.now u) t₁ u c.are_typed.ensures.kept x
-    (g.met.S.Signature.same_types c.args.sig.now t₁ u x held) (memo-more c.form_id.new.memo t₃ u c.form_id.ensures.kept y) refl
+    let t₁ = c.declared.new.table in
+    let x₁ : Extends t₀ t₁ = c.declared.ensures.extends in
+    let same = g.met.S.Signature.same_types c.args.sig.now t₀ t₁ x₁ c.requires.holds in
+    kept-last c.args.kept.now (g.S.Signature.declares c.args.sig.now) t₀ t₁ c.requires.kept x₁ same
 
-pub returns-in_err-hyps-clause-kept : goal.returns-in_err-hyps-clause-kept
-returns-in_err-hyps-clause-kept g c =
+pub conclusion_term-requires-clause-params : goal.conclusion_term-requires-clause-params
+conclusion_term-requires-clause-params g c =
     let t₀ = c.args.table.now in
-    let t₁ = c.are_typed.new.table in
-    let t₃ = c.form_id.new.table in
-    let t₅ = c.with_proofs.new.table in
-    let u = c.declared.new.table in
-    let y = extends_trans t₃ t₅ u (extends_trans t₃ c.rule_term.new.table t₅ c.rule_term.ensures.extends c.with_proofs.ensures.extends) c.declared.ensures.extends in
-    let x = extends_trans t₁ t₃ u (extends_trans t₁ c.do_fit.new.table t₃ c.do_fit.ensures.extends c.form_id.ensures.extends) y in
-    let held = g.met.S.Signature.still_holds c.args.sig.now t₀ t₁ c.are_typed.ensures.extends c.requires.holds in
-    kept-grown c.are_typed.new.kept _ (g.S.Signature.declares c.args.sig.now t₁) (g.S.Signature.declares c.args.sig.now u) t₁ u c.are_typed.ensures.kept x
-    (g.met.S.Signature.same_types c.args.sig.now t₁ u x held) (memo-more c.form_id.new.memo t₃ u c.form_id.ensures.kept y) refl
+    let t₁ = c.declared.new.table in
+    let x₁ : Extends t₀ t₁ = c.declared.ensures.extends in
+    known-more t₀ t₁ c.args.params.now c.requires.params x₁
 
-pub returns-clause-kept : goal.returns-clause-kept
-returns-clause-kept g c =
+pub conclusion_term-requires-clause-premises : goal.conclusion_term-requires-clause-premises
+conclusion_term-requires-clause-premises g c =
     let t₀ = c.args.table.now in
-    let t₁ = c.are_typed.new.table in
-    let t₃ = c.form_id.new.table in
-    let t₅ = c.with_proofs.new.table in
-    let u = c.declared.new.table in
-    let y = extends_trans t₃ t₅ u (extends_trans t₃ c.rule_term.new.table t₅ c.rule_term.ensures.extends c.with_proofs.ensures.extends) c.declared.ensures.extends in
-    let x = extends_trans t₁ t₃ u (extends_trans t₁ c.do_fit.new.table t₃ c.do_fit.ensures.extends c.form_id.ensures.extends) y in
-    let held = g.met.S.Signature.still_holds c.args.sig.now t₀ t₁ c.are_typed.ensures.extends c.requires.holds in
-    kept-grown c.are_typed.new.kept _ (g.S.Signature.declares c.args.sig.now t₁) (g.S.Signature.declares c.args.sig.now u) t₁ u c.are_typed.ensures.kept x
-    (g.met.S.Signature.same_types c.args.sig.now t₁ u x held) (memo-more c.form_id.new.memo t₃ u c.form_id.ensures.kept y) refl
+    let t₁ = c.declared.new.table in
+    let x₁ : Extends t₀ t₁ = c.declared.ensures.extends in
+    placeds-more t₀ t₁ _ (are_placed _ _ _ c.requires.premises) x₁
 
-pub returns-clause-answer : goal.returns-clause-answer
-returns-clause-answer g c =
+pub returns-in_err-term-clause-kept : goal.returns-in_err-term-clause-kept
+returns-in_err-term-clause-kept g c =
     let t₀ = c.args.table.now in
-    let t₁ = c.are_typed.new.table in
-    let t₂ = c.do_fit.new.table in
-    let t₃ = c.form_id.new.table in
-    let t₄ = c.rule_term.new.table in
-    let t₅ = c.with_proofs.new.table in
-    let t₆ = c.declared.new.table in
+    let t₁ = c.declared.new.table in
+    let t₂ = c.conclusion_term.new.table in
+    let x₁ : Extends t₀ t₁ = c.declared.ensures.extends in
+    let x₂ : Extends t₀ t₂ = extends_trans t₀ t₁ t₂ x₁ c.conclusion_term.ensures.extends in
+    let same = g.met.S.Signature.same_types c.args.sig.now t₀ t₂ x₂ c.requires.holds in
+    kept-last c.args.kept.now (g.S.Signature.declares c.args.sig.now) t₀ t₂ c.requires.kept x₂ same
+
+pub may_have_type-requires-clause-hyps : goal.may_have_type-requires-clause-hyps
+may_have_type-requires-clause-hyps g c =
+    let t₀ = c.args.table.now in
+    let t₁ = c.declared.new.table in
+    let t₂ = c.conclusion_term.new.table in
+    let x₁ : Extends t₀ t₁ = c.declared.ensures.extends in
+    let x₂ : Extends t₀ t₂ = extends_trans t₀ t₁ t₂ x₁ c.conclusion_term.ensures.extends in
+    known-more t₀ t₂ c.args.hyps.now c.requires.hyps x₂
+
+pub may_have_type-requires-clause-kept : goal.may_have_type-requires-clause-kept
+may_have_type-requires-clause-kept g c =
+    let t₀ = c.args.table.now in
+    let t₁ = c.declared.new.table in
+    let t₂ = c.conclusion_term.new.table in
+    let x₁ : Extends t₀ t₁ = c.declared.ensures.extends in
+    let x₂ : Extends t₀ t₂ = extends_trans t₀ t₁ t₂ x₁ c.conclusion_term.ensures.extends in
+    let same = g.met.S.Signature.same_types c.args.sig.now t₀ t₂ x₂ c.requires.holds in
+    kept-last c.args.kept.now (g.S.Signature.declares c.args.sig.now) t₀ t₂ c.requires.kept x₂ same
+
+pub returns-then-not-branch-clause-answer : goal.returns-then-not-branch-clause-answer
+returns-then-not-branch-clause-answer g c =
+    let t₀ = c.args.table.now in
+    let t₁ = c.declared.new.table in
+    let t₂ = c.conclusion_term.new.table in
+    let x₁ : Extends t₀ t₁ = c.declared.ensures.extends in
+    let x₂ : Extends t₀ t₂ = extends_trans t₀ t₁ t₂ x₁ c.conclusion_term.ensures.extends in
     let sig = g.S.Signature.declares c.args.sig.now t₀ in
     let hyps = c.args.hyps.now in
     let params = c.args.params.now in
     let n = c.args.number in
     let l = sequents_of c.args.premises.now in
-    let placed = are_placed sig t₀ l c.requires.premises in
     let r = rule_of c.in-Some.rule.now in
-    let args = nth_arg (trees_of t₀ params) in
     let row : rule_at n ≡ Some r = sym c.in-Some.ensures in
-    let x₁ : Extends t₀ t₁ = c.are_typed.ensures.extends in
-    let x₂ : Extends t₀ t₂ = extends_trans t₀ t₁ t₂ x₁ c.do_fit.ensures.extends in
-    let x₃ : Extends t₀ t₃ = extends_trans t₀ t₂ t₃ x₂ c.form_id.ensures.extends in
-    let x₄ : Extends t₀ t₄ = extends_trans t₀ t₃ t₄ x₃ c.rule_term.ensures.extends in
-    let x₅ : Extends t₀ t₅ = extends_trans t₀ t₄ t₅ x₄ c.with_proofs.ensures.extends in
-    let x₆ : Extends t₀ t₆ = extends_trans t₀ t₅ t₆ x₅ c.declared.ensures.extends in
-    let last : Extends t₅ t₆ = c.declared.ensures.extends in
-    let later : Extends t₃ t₆ = extends_trans t₃ t₄ t₆ c.rule_term.ensures.extends (extends_trans t₄ t₅ t₆ c.with_proofs.ensures.extends last) in
-    let held = g.met.S.Signature.still_holds c.args.sig.now t₀ t₅ x₅ c.requires.holds in
-    let same_sig = g.met.S.Signature.same_types c.args.sig.now t₀ t₅ x₅ c.requires.holds in
-    let found : (a : Tree) × (sig (Num n) ≡ Some a) = stands_some t₆ (g.S.Signature.declares c.args.sig.now t₅ (Num n)) sig n (ap (λ f. f (Num n)) same_sig) c.in_ok-declared.field-0 c.in_ok-declared.ensures.tree c.if-is_none.ensures in
+    let placed = are_placed sig t₀ l c.requires.premises in
+    let tree = by_rule n (trees_of t₀ params) (proofs_taken t₀ r.premises l) in
+    let id = c.in_ok-term.term in
+    let made : tree_at t₂ id ≡ tree = term-was t₀ t₁ t₂ params n r l id c.requires.params placed x₁ c.in_ok-term.ensures.id in
+    let same = g.met.S.Signature.same_types c.args.sig.now t₀ t₂ x₂ c.requires.holds in
+    let ctx = ctx-same t₀ t₂ hyps c.requires.hyps x₂ in
+    let kind = pf (form_with r.conclusion (nth_arg (trees_of t₀ params))) in
+    let untyped : HasForm sig t₀ hyps params r l → Derives sig t₀ hyps params n r l → ⊥ = λ _ derives.
+    let typed = subst (λ (z : Type 0). z) (λ i. Synth (sym same i) (sym ctx i) (sym made i) kind) (synthesised derives) in
+    c.in_ok-may_have_type.ensures.none c.if-not-branch.true kind typed in
+    not_derived sig t₀ c.may_have_type.new.table hyps params n r l row untyped
+
+pub has_form-requires-clause-hyps : goal.has_form-requires-clause-hyps
+has_form-requires-clause-hyps g c =
+    let t₀ = c.args.table.now in
+    let t₁ = c.declared.new.table in
+    let t₂ = c.conclusion_term.new.table in
+    let t₃ = c.may_have_type.new.table in
+    let x₁ : Extends t₀ t₁ = c.declared.ensures.extends in
+    let x₂ : Extends t₀ t₂ = extends_trans t₀ t₁ t₂ x₁ c.conclusion_term.ensures.extends in
+    let x₃ : Extends t₀ t₃ = extends_trans t₀ t₂ t₃ x₂ c.may_have_type.ensures.extends in
+    known-more t₀ t₃ c.args.hyps.now c.requires.hyps x₃
+
+pub has_form-requires-clause-params : goal.has_form-requires-clause-params
+has_form-requires-clause-params g c =
+    let t₀ = c.args.table.now in
+    let t₁ = c.declared.new.table in
+    let t₂ = c.conclusion_term.new.table in
+    let t₃ = c.may_have_type.new.table in
+    let x₁ : Extends t₀ t₁ = c.declared.ensures.extends in
+    let x₂ : Extends t₀ t₂ = extends_trans t₀ t₁ t₂ x₁ c.conclusion_term.ensures.extends in
+    let x₃ : Extends t₀ t₃ = extends_trans t₀ t₂ t₃ x₂ c.may_have_type.ensures.extends in
+    known-more t₀ t₃ c.args.params.now c.requires.params x₃
+
+pub has_form-requires-clause-premises : goal.has_form-requires-clause-premises
+has_form-requires-clause-premises g c =
+    let t₀ = c.args.table.now in
+    let t₁ = c.declared.new.table in
+    let t₂ = c.conclusion_term.new.table in
+    let t₃ = c.may_have_type.new.table in
+    let x₁ : Extends t₀ t₁ = c.declared.ensures.extends in
+    let x₂ : Extends t₀ t₂ = extends_trans t₀ t₁ t₂ x₁ c.conclusion_term.ensures.extends in
+    let x₃ : Extends t₀ t₃ = extends_trans t₀ t₂ t₃ x₂ c.may_have_type.ensures.extends in
+    placeds-more t₀ t₃ _ (are_placed _ _ _ c.requires.premises) x₃
+
+pub returns-then-not-branch-2-clause-answer : goal.returns-then-not-branch-2-clause-answer
+returns-then-not-branch-2-clause-answer g c =
+    let t₀ = c.args.table.now in
+    let t₁ = c.declared.new.table in
+    let t₂ = c.conclusion_term.new.table in
+    let t₃ = c.may_have_type.new.table in
+    let x₁ : Extends t₀ t₁ = c.declared.ensures.extends in
+    let x₂ : Extends t₀ t₂ = extends_trans t₀ t₁ t₂ x₁ c.conclusion_term.ensures.extends in
+    let x₃ : Extends t₀ t₃ = extends_trans t₀ t₂ t₃ x₂ c.may_have_type.ensures.extends in
+    let sig = g.S.Signature.declares c.args.sig.now t₀ in
+    let hyps = c.args.hyps.now in
+    let params = c.args.params.now in
+    let n = c.args.number in
+    let l = sequents_of c.args.premises.now in
+    let r = rule_of c.in-Some.rule.now in
+    let row : rule_at n ≡ Some r = sym c.in-Some.ensures in
+    let placed = are_placed sig t₀ l c.requires.premises in
+    let same = g.met.S.Signature.same_types c.args.sig.now t₀ t₃ x₃ c.requires.holds in
+    let unfit : HasForm sig t₀ hyps params r l → ⊥ = λ form.
+    let later = form-more sig t₀ t₃ hyps params r l c.requires.hyps c.requires.params placed x₃ form in
+    let there = subst (λ z. HasForm z t₃ hyps params r l) (sym same) later in
+    let yes : false ≡ true = sym c.if-not-branch-2.true ∙ c.in_ok-has_form.ensures.answer.1 there in
+    cc in
+    no_form sig t₀ c.has_form.new.table hyps params n r l row unfit
+
+pub form_id-requires-clause-known : goal.form_id-requires-clause-known
+form_id-requires-clause-known g c =
+    let t₀ = c.args.table.now in
+    let t₁ = c.declared.new.table in
+    let t₂ = c.conclusion_term.new.table in
+    let t₃ = c.may_have_type.new.table in
+    let t₄ = c.has_form.new.table in
+    let x₁ : Extends t₀ t₁ = c.declared.ensures.extends in
+    let x₂ : Extends t₀ t₂ = extends_trans t₀ t₁ t₂ x₁ c.conclusion_term.ensures.extends in
+    let x₃ : Extends t₀ t₃ = extends_trans t₀ t₂ t₃ x₂ c.may_have_type.ensures.extends in
+    let x₄ : Extends t₀ t₄ = extends_trans t₀ t₃ t₄ x₃ c.has_form.ensures.extends in
+    known-more t₀ t₄ c.args.params.now c.requires.params x₄
+
+pub returns-in_err-goal-clause-kept : goal.returns-in_err-goal-clause-kept
+returns-in_err-goal-clause-kept g c =
+    let t₀ = c.args.table.now in
+    let t₁ = c.declared.new.table in
+    let t₂ = c.conclusion_term.new.table in
+    let t₃ = c.may_have_type.new.table in
+    let t₄ = c.has_form.new.table in
+    let t₅ = c.form_id.new.table in
+    let x₁ : Extends t₀ t₁ = c.declared.ensures.extends in
+    let x₂ : Extends t₀ t₂ = extends_trans t₀ t₁ t₂ x₁ c.conclusion_term.ensures.extends in
+    let x₃ : Extends t₀ t₃ = extends_trans t₀ t₂ t₃ x₂ c.may_have_type.ensures.extends in
+    let x₄ : Extends t₀ t₄ = extends_trans t₀ t₃ t₄ x₃ c.has_form.ensures.extends in
+    let x₅ : Extends t₀ t₅ = extends_trans t₀ t₄ t₅ x₄ c.form_id.ensures.extends in
+    let after = g.S.Signature.declares c.args.sig.now in
+    let y : Extends t₄ t₅ = c.form_id.ensures.extends in
+    let held = g.met.S.Signature.still_holds c.args.sig.now t₀ t₄ x₄ c.requires.holds in
+    let same = g.met.S.Signature.same_types c.args.sig.now t₄ t₅ y held in
+    kept-grown c.has_form.new.kept _ (after t₄) (after t₅) t₄ t₅ c.has_form.ensures.kept y same c.form_id.ensures.kept refl
+
+pub is_proof-requires-clause-hyps : goal.is_proof-requires-clause-hyps
+is_proof-requires-clause-hyps g c =
+    let t₀ = c.args.table.now in
+    let t₁ = c.declared.new.table in
+    let t₂ = c.conclusion_term.new.table in
+    let t₃ = c.may_have_type.new.table in
+    let t₄ = c.has_form.new.table in
+    let t₅ = c.form_id.new.table in
+    let x₁ : Extends t₀ t₁ = c.declared.ensures.extends in
+    let x₂ : Extends t₀ t₂ = extends_trans t₀ t₁ t₂ x₁ c.conclusion_term.ensures.extends in
+    let x₃ : Extends t₀ t₃ = extends_trans t₀ t₂ t₃ x₂ c.may_have_type.ensures.extends in
+    let x₄ : Extends t₀ t₄ = extends_trans t₀ t₃ t₄ x₃ c.has_form.ensures.extends in
+    let x₅ : Extends t₀ t₅ = extends_trans t₀ t₄ t₅ x₄ c.form_id.ensures.extends in
+    known-more t₀ t₅ c.args.hyps.now c.requires.hyps x₅
+
+pub is_proof-requires-clause-proved : goal.is_proof-requires-clause-proved
+is_proof-requires-clause-proved g c =
+    let t₀ = c.args.table.now in
+    let t₁ = c.declared.new.table in
+    let t₂ = c.conclusion_term.new.table in
+    let t₃ = c.may_have_type.new.table in
+    let t₄ = c.has_form.new.table in
+    let t₅ = c.form_id.new.table in
+    let x₁ : Extends t₀ t₁ = c.declared.ensures.extends in
+    let x₂ : Extends t₀ t₂ = extends_trans t₀ t₁ t₂ x₁ c.conclusion_term.ensures.extends in
+    let x₃ : Extends t₀ t₃ = extends_trans t₀ t₂ t₃ x₂ c.may_have_type.ensures.extends in
+    let x₄ : Extends t₀ t₄ = extends_trans t₀ t₃ t₄ x₃ c.has_form.ensures.extends in
+    let x₅ : Extends t₀ t₅ = extends_trans t₀ t₄ t₅ x₄ c.form_id.ensures.extends in
+    let sig = g.S.Signature.declares c.args.sig.now t₀ in
+    let hyps = c.args.hyps.now in
+    let params = c.args.params.now in
+    let n = c.args.number in
+    let l = sequents_of c.args.premises.now in
+    let r = rule_of c.in-Some.rule.now in
+    let row : rule_at n ≡ Some r = sym c.in-Some.ensures in
+    let placed = are_placed sig t₀ l c.requires.premises in
+    let tree = by_rule n (trees_of t₀ params) (proofs_taken t₀ r.premises l) in
+    let id = c.in_ok-term.term in
+    let made : tree_at t₂ id ≡ tree = term-was t₀ t₁ t₂ params n r l id c.requires.params placed x₁ c.in_ok-term.ensures.id in
+    let y₄ : Extends t₂ t₄ = extends_trans t₂ t₃ t₄ c.may_have_type.ensures.extends c.has_form.ensures.extends in
+    let y₅ : Extends t₂ t₅ = extends_trans t₂ t₄ t₅ y₄ c.form_id.ensures.extends in
+    let formula = form_with r.conclusion (nth_arg (trees_of t₀ params)) in
+    let goal-id = c.in_ok-goal.goal in
+    let is-term : tree_at t₅ id ≡ tree = y₅.same id c.in_ok-term.ensures.id.known ∙ made in
+    let is-goal : tree_at t₅ goal-id ≡ formula = goal-was t₀ t₄ t₅ params r goal-id c.requires.params x₄ c.in_ok-goal.ensures.id in
+    let same = g.met.S.Signature.same_types c.args.sig.now t₀ t₅ x₅ c.requires.holds in
+    let checked = derives-at sig (g.S.Signature.declares c.args.sig.now t₅) t₀ t₅ hyps params n r l id goal-id
+    same c.requires.hyps x₅ is-term is-goal in
+    let found : (a : Tree) × (sig (Num n) ≡ Some a) =
+    stands_some t₁ (sig (Num n)) sig n refl c.in_ok-declared.field-0 c.in_ok-declared.ensures.tree c.if-is_none.ensures in
+    let same₃ = g.met.S.Signature.same_types c.args.sig.now t₀ t₃ x₃ c.requires.holds in
+    let later : HasForm sig t₃ hyps params r l =
+    subst (λ z. HasForm z t₃ hyps params r l) same₃ (c.in_ok-has_form.ensures.answer.0 c.if-not-branch-2.false) in
+    let form : HasForm sig t₀ hyps params r l =
+    form-back sig t₀ t₃ hyps params r l c.requires.hyps c.requires.params placed x₃ later in
     let has = has_rule sig (g.met.S.Known.known c.args.sig.now t₀ c.requires.holds) n r found.0 row found.1 in
-    let room : HasVarRoom t₀ hyps params l = c.has_room.ensures c.if-not-has_room.false in
-    let fit : FitPremises t₀ hyps args r.premises l =
-    fit-back t₀ t₁ hyps args r.premises l placed x₁
-    (subst (λ z. FitPremises t₁ hyps (nth_arg z) r.premises l) (trees-same t₀ t₁ params c.requires.params x₁) (c.in_ok-do_fit.ensures.answer.0 c.if-not-branch-2.false)) in
-    let form : HasForm sig t₀ hyps params r l = record { typed = c.in_ok-are_typed.ensures.answer.0 c.if-not-branch.false; fit = fit } in
-    let goal : tree_at t₆ c.in_ok-goal.goal ≡ form_with r.conclusion args =
-    later.same c.in_ok-goal.goal c.in_ok-goal.ensures.id.known ∙ c.in_ok-goal.ensures.id.is
-    ∙ (λ i. form_with r.conclusion (λ j. shift-none (nth_arg (trees-same t₀ t₂ params c.requires.params x₂ i) j) 0 i)) in
-    let term : tree_at t₆ c.in_ok-term.term ≡ by_rule n (trees_of t₀ params) (proofs_taken t₀ r.premises l) =
-    last.same c.in_ok-term.term c.in_ok-term.ensures.id.known
-    ∙ c.in_ok-term.ensures.id.is
-    ∙ (λ i. apps ((c.in_ok-head.ensures.id.is ∙ ap (apps (Con (Num n))) (trees-same t₀ t₃ params c.requires.params x₃)) i) (proofs-same t₀ t₄ r.premises l placed x₄ i)) in
-    let same : c.in_ok-hyps.hyps.items ≡ hyps = search rules in
-    subst (λ o. IsRowAnswer sig t₀ t₆ hyps params n o l (Some record { hyps = c.in_ok-hyps.hyps; goal = c.in_ok-goal.goal; term = c.in_ok-term.term })) (sym (the_rule sig n r found.0 row found.1)) (
-      form,
-      concluded sig t₀ t₆ hyps params n r l (record { hyps = c.in_ok-hyps.hyps; goal = c.in_ok-goal.goal; term = c.in_ok-term.term }) row has c.requires.hyps c.requires.premises room form x₆ same
-          (omega (arith, c.in_ok-goal.ensures.id.known, later.longer)) goal (omega (arith, c.in_ok-term.ensures.id.known, last.longer)) term,
-    )
+    λ q. subst (λ (z : Type 0). z) (sym checked)
+    (proves_conclusion sig t₀ hyps params n r l row has c.requires.premises (c.has_room-room.ensures q) form)
+
+pub is_proof-requires-clause-kept : goal.is_proof-requires-clause-kept
+is_proof-requires-clause-kept g c =
+    let t₀ = c.args.table.now in
+    let t₁ = c.declared.new.table in
+    let t₂ = c.conclusion_term.new.table in
+    let t₃ = c.may_have_type.new.table in
+    let t₄ = c.has_form.new.table in
+    let t₅ = c.form_id.new.table in
+    let x₁ : Extends t₀ t₁ = c.declared.ensures.extends in
+    let x₂ : Extends t₀ t₂ = extends_trans t₀ t₁ t₂ x₁ c.conclusion_term.ensures.extends in
+    let x₃ : Extends t₀ t₃ = extends_trans t₀ t₂ t₃ x₂ c.may_have_type.ensures.extends in
+    let x₄ : Extends t₀ t₄ = extends_trans t₀ t₃ t₄ x₃ c.has_form.ensures.extends in
+    let x₅ : Extends t₀ t₅ = extends_trans t₀ t₄ t₅ x₄ c.form_id.ensures.extends in
+    let after = g.S.Signature.declares c.args.sig.now in
+    let y : Extends t₄ t₅ = c.form_id.ensures.extends in
+    let held = g.met.S.Signature.still_holds c.args.sig.now t₀ t₄ x₄ c.requires.holds in
+    let same = g.met.S.Signature.same_types c.args.sig.now t₄ t₅ y held in
+    kept-grown c.has_form.new.kept _ (after t₄) (after t₅) t₄ t₅ c.has_form.ensures.kept y same c.form_id.ensures.kept refl
+
+pub returns-then-not-branch-3-clause-answer : goal.returns-then-not-branch-3-clause-answer
+returns-then-not-branch-3-clause-answer g c =
+    let t₀ = c.args.table.now in
+    let t₁ = c.declared.new.table in
+    let t₂ = c.conclusion_term.new.table in
+    let t₃ = c.may_have_type.new.table in
+    let t₄ = c.has_form.new.table in
+    let t₅ = c.form_id.new.table in
+    let x₁ : Extends t₀ t₁ = c.declared.ensures.extends in
+    let x₂ : Extends t₀ t₂ = extends_trans t₀ t₁ t₂ x₁ c.conclusion_term.ensures.extends in
+    let x₃ : Extends t₀ t₃ = extends_trans t₀ t₂ t₃ x₂ c.may_have_type.ensures.extends in
+    let x₄ : Extends t₀ t₄ = extends_trans t₀ t₃ t₄ x₃ c.has_form.ensures.extends in
+    let x₅ : Extends t₀ t₅ = extends_trans t₀ t₄ t₅ x₄ c.form_id.ensures.extends in
+    let sig = g.S.Signature.declares c.args.sig.now t₀ in
+    let hyps = c.args.hyps.now in
+    let params = c.args.params.now in
+    let n = c.args.number in
+    let l = sequents_of c.args.premises.now in
+    let r = rule_of c.in-Some.rule.now in
+    let row : rule_at n ≡ Some r = sym c.in-Some.ensures in
+    let placed = are_placed sig t₀ l c.requires.premises in
+    let tree = by_rule n (trees_of t₀ params) (proofs_taken t₀ r.premises l) in
+    let id = c.in_ok-term.term in
+    let made : tree_at t₂ id ≡ tree = term-was t₀ t₁ t₂ params n r l id c.requires.params placed x₁ c.in_ok-term.ensures.id in
+    let y₄ : Extends t₂ t₄ = extends_trans t₂ t₃ t₄ c.may_have_type.ensures.extends c.has_form.ensures.extends in
+    let y₅ : Extends t₂ t₅ = extends_trans t₂ t₄ t₅ y₄ c.form_id.ensures.extends in
+    let formula = form_with r.conclusion (nth_arg (trees_of t₀ params)) in
+    let goal-id = c.in_ok-goal.goal in
+    let is-term : tree_at t₅ id ≡ tree = y₅.same id c.in_ok-term.ensures.id.known ∙ made in
+    let is-goal : tree_at t₅ goal-id ≡ formula = goal-was t₀ t₄ t₅ params r goal-id c.requires.params x₄ c.in_ok-goal.ensures.id in
+    let same = g.met.S.Signature.same_types c.args.sig.now t₀ t₅ x₅ c.requires.holds in
+    let checked = derives-at sig (g.S.Signature.declares c.args.sig.now t₅) t₀ t₅ hyps params n r l id goal-id
+    same c.requires.hyps x₅ is-term is-goal in
+    let unproved : HasForm sig t₀ hyps params r l → Derives sig t₀ hyps params n r l → ⊥ = λ _ derives.
+    let there = subst (λ (z : Type 0). z) (sym checked) derives in
+    let yes : false ≡ true = sym c.if-not-branch-3.true ∙ c.in_ok-is_proof.ensures.exact.1 there in
+    cc in
+    not_derived sig t₀ c.is_proof.new.table hyps params n r l row unproved
+
+pub returns-clause-answer : goal.returns-clause-answer
+returns-clause-answer g c =
+    let t₀ = c.args.table.now in
+    let t₁ = c.declared.new.table in
+    let t₂ = c.conclusion_term.new.table in
+    let t₃ = c.may_have_type.new.table in
+    let t₄ = c.has_form.new.table in
+    let t₅ = c.form_id.new.table in
+    let t₆ = c.is_proof.new.table in
+    let x₁ : Extends t₀ t₁ = c.declared.ensures.extends in
+    let x₂ : Extends t₀ t₂ = extends_trans t₀ t₁ t₂ x₁ c.conclusion_term.ensures.extends in
+    let x₃ : Extends t₀ t₃ = extends_trans t₀ t₂ t₃ x₂ c.may_have_type.ensures.extends in
+    let x₄ : Extends t₀ t₄ = extends_trans t₀ t₃ t₄ x₃ c.has_form.ensures.extends in
+    let x₅ : Extends t₀ t₅ = extends_trans t₀ t₄ t₅ x₄ c.form_id.ensures.extends in
+    let x₆ : Extends t₀ t₆ = extends_trans t₀ t₅ t₆ x₅ c.is_proof.ensures.extends in
+    let sig = g.S.Signature.declares c.args.sig.now t₀ in
+    let hyps = c.args.hyps.now in
+    let params = c.args.params.now in
+    let n = c.args.number in
+    let l = sequents_of c.args.premises.now in
+    let r = rule_of c.in-Some.rule.now in
+    let row : rule_at n ≡ Some r = sym c.in-Some.ensures in
+    let placed = are_placed sig t₀ l c.requires.premises in
+    let tree = by_rule n (trees_of t₀ params) (proofs_taken t₀ r.premises l) in
+    let id = c.in_ok-term.term in
+    let made : tree_at t₂ id ≡ tree = term-was t₀ t₁ t₂ params n r l id c.requires.params placed x₁ c.in_ok-term.ensures.id in
+    let y₄ : Extends t₂ t₄ = extends_trans t₂ t₃ t₄ c.may_have_type.ensures.extends c.has_form.ensures.extends in
+    let y₅ : Extends t₂ t₅ = extends_trans t₂ t₄ t₅ y₄ c.form_id.ensures.extends in
+    let formula = form_with r.conclusion (nth_arg (trees_of t₀ params)) in
+    let goal-id = c.in_ok-goal.goal in
+    let is-term : tree_at t₅ id ≡ tree = y₅.same id c.in_ok-term.ensures.id.known ∙ made in
+    let is-goal : tree_at t₅ goal-id ≡ formula = goal-was t₀ t₄ t₅ params r goal-id c.requires.params x₄ c.in_ok-goal.ensures.id in
+    let same = g.met.S.Signature.same_types c.args.sig.now t₀ t₅ x₅ c.requires.holds in
+    let checked = derives-at sig (g.S.Signature.declares c.args.sig.now t₅) t₀ t₅ hyps params n r l id goal-id
+    same c.requires.hyps x₅ is-term is-goal in
+    let found : (a : Tree) × (sig (Num n) ≡ Some a) =
+    stands_some t₁ (sig (Num n)) sig n refl c.in_ok-declared.field-0 c.in_ok-declared.ensures.tree c.if-is_none.ensures in
+    let same₃ = g.met.S.Signature.same_types c.args.sig.now t₀ t₃ x₃ c.requires.holds in
+    let later : HasForm sig t₃ hyps params r l =
+    subst (λ z. HasForm z t₃ hyps params r l) same₃ (c.in_ok-has_form.ensures.answer.0 c.if-not-branch-2.false) in
+    let form : HasForm sig t₀ hyps params r l =
+    form-back sig t₀ t₃ hyps params r l c.requires.hyps c.requires.params placed x₃ later in
+    let last : Extends t₅ t₆ = c.is_proof.ensures.extends in
+    let derives : Derives sig t₀ hyps params n r l =
+    subst (λ (z : Type 0). z) checked (c.in_ok-is_proof.ensures.exact.0 c.if-not-branch-3.false) in
+    let term-known : IsKnown t₅ id = omega (arith, c.in_ok-term.ensures.id.known, y₅.longer) in
+    let term-there : IsKnown t₆ id = omega (arith, term-known, last.longer) in
+    let goal-known : IsKnown t₅ goal-id = c.in_ok-goal.ensures.id.known in
+    let goal-there : IsKnown t₆ goal-id = omega (arith, goal-known, last.longer) in
+    let same-hyps : c.in_ok-hyps.hyps.items ≡ hyps = search rules in
+    let s : Sequent = record { hyps = c.in_ok-hyps.hyps; goal = goal-id; term = id } in
+    let concludes = concluded sig t₀ t₆ hyps params n r l s c.requires.hyps x₆ same-hyps
+    goal-there (last.same goal-id goal-known ∙ is-goal) term-there (last.same id term-known ∙ is-term) derives in
+    subst (λ o. IsRowAnswer sig t₀ t₆ hyps params n o l (Some s)) (sym (the_rule sig n r found.0 row found.1)) (form, concludes)
