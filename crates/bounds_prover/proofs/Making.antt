@@ -1,5 +1,6 @@
 -- The container that is made: what it holds, and that it is accepted.
-use Rattle.std.proofs.Common.{◌≡◌, ℕ, ◌<◌, ◌≤◌, Bool, true, false, cond, is_some, ◌==◌, List, [], ◌∷◌, ◌++◌, map, length, Option, Some, None, Ok, Err, refl, sym, ◌∙◌, ap, subst, arith}
+use Rattle.std.proofs.Common.{◌≡◌, ℕ, ◌<◌, ◌≤◌, Bool, true, false, cond, is_some, ◌==◌, List, [], ◌∷◌, ◌++◌, map, length, Option, Some, None, Result, Ok, Err, Vec, refl, sym, ◌∙◌, ap, subst, arith}
+use Rattle.std.specs.Global.{Global}
 use Rattle.std.proofs.lemmas.Bool.{ne_eqb}
 use Rattle.std.proofs.lemmas.List.Elements.{All-nil, All-cons, All-head, All-tail}
 use Rattle.alpha_words.specs.declared.insn.Insn.{Insn}
@@ -25,7 +26,7 @@ use Rattle.proof_container.specs.Decoding.{decoded_container}
 use Rattle.proof_container.proofs.Whole.{container_again}
 use Rattle.vcgen.specs.Encoded.{AreForms}
 use Rattle.vcgen.specs.declared.condition.TheConstants.{MAX_HEIGHT}
-use Rattle.pcc_gate.specs.Passing.{AreLow, Passes}
+use Rattle.pcc_gate.specs.Passing.{AreLow, Passes, PassesUntyped}
 use Rattle.pcc_gate.specs.Accepted.{Accepts, IsAccepted}
 use Rattle.pcc_gate.specs.First.{vc_of, lemma_refusal}
 use Rattle.pcc_gate.specs.Answers.{HasGoodLemmas}
@@ -34,11 +35,13 @@ use Rattle.pcc_gate.proofs.First.{vc_of-encodes}
 use Rattle.pcc_gate.proofs.Lemmas.{none-good}
 use Rattle.pcc_gate.proofs.Safe.{bound-fits}
 use Rattle.prover_class.specs.Parts.{conjoined, condition_proof, first_not_easy}
+use Rattle.bounds_prover.specs.declared.fault.ProveFault.{ProveFault}
+use Rattle.bounds_prover.specs.declared.fault.ProveFault.TheVariants.{At, Memory, Results}
 use Rattle.bounds_prover.specs.declared.fault.ProveFlaw.{ProveFlaw}
 use Rattle.bounds_prover.specs.declared.fault.ProveFlaw.TheVariants.{Refused, NotEasy}
 use Rattle.prover_conditions.specs.Conditions.{condition_parts}
 use Rattle.prover_conditions.proofs.WholeProof.{IsSoundClass, condition-parts, parts-first, parts-second, parts-third, proof-checks}
-use Rattle.bounds_prover.specs.Proving.{with_proof, excess, encoded_unless, with_parts_proof, proved_contents, proved_code, proved_read, made_unless, proved_container}
+use Rattle.bounds_prover.specs.Proving.{with_proof, excess, encoded_unless, with_parts_proof, proved_contents, proved_code, proved_read, made_unless, proved_container, IsMadeAnswer}
 use Rattle.bounds_prover.proofs.Measures.{IsSmallEnough, small-enough}
 use Rattle.bounds_prover.proofs.SmallTerms.{checks-small, checks-entry}
 use Rattle.lf_signature.specs.declared.WordSignature.{WordSignature}
@@ -252,7 +255,29 @@ module _ (c : Contents) (parts : List Form) where
           let n = encoded-none (excess (with_proof c p) p) (with_proof c p) out e in
           record { proof = p; given = q; small = n.0; out_is = n.1 }
 
+-- what is written never waits for results
+pub made-written : {Begun : Type 0} (m : Result (List ℕ) ProveFlaw) (r : Result (Vec ℕ Global) ProveFault)
+    → IsMadeAnswer ⊥ m r → IsMadeAnswer Begun m r
+made-written m (Ok out) h = h
+made-written m (Err (At flaw)) h = h
+made-written m (Err Memory) h = h
+made-written m (Err Results) h = absurd h
+
 -- ---- what is made of bytes
+
+-- where clauses 1 to 8 and 13 hold, 1 to 5 do
+pub passes-untyped : {policy : PolicyView} {bytes : List ℕ} {c : Contents} {code : List Insn}
+    {marks : List Bool} → Passes policy bytes c code marks → PassesUntyped policy bytes
+passes-untyped {c = c} {code = code} p = record {
+  contents = c;
+  insns = code;
+  size = p.size;
+  container = p.container;
+  named = p.named;
+  encoded = p.encoded;
+  code = p.code;
+  heights = p.heights;
+}
 
 -- where none of the clauses tried fails, it is made of their contents
 pub contents-made : (policy : PolicyView) (bytes : List ℕ) (c : Contents) (code : List Insn)

@@ -14,6 +14,7 @@ use Rattle.proof_container.specs.Encoding.{encoding_of}
 use Rattle.proof_container.specs.Decoding.{Fault, decoded_container}
 use Rattle.proof_container.specs.declared.limits.TheConstants.{MAX_BYTES, MAX_ENTRIES}
 use Rattle.vcgen.specs.declared.condition.TheConstants.{MAX_HEIGHT}
+use Rattle.pcc_gate.specs.Passing.{PassesUntyped}
 use Rattle.pcc_gate.specs.First.{lemma_refusal}
 use Rattle.pcc_gate.specs.Weights.{proof_weight}
 use Rattle.pcc_gate.specs.declared.limits.TheConstants.{MAX_WEIGHT}
@@ -96,13 +97,16 @@ proved_container policy bytes =
 
 -- ---- answers
 
--- the answer is what is made, or the flaw why not; want of memory and the limit of results say nothing
-abbrev pub IsMadeAnswer : Result (List ℕ) ProveFlaw → Result (Vec ℕ Global) ProveFault → Type 0
-IsMadeAnswer made (Ok out) = made ≡ Ok out.items
-IsMadeAnswer made (Err (At flaw)) = made ≡ Err flaw
-IsMadeAnswer made (Err Memory) = Unit {0}
-IsMadeAnswer made (Err Results) = Unit {0}
+-- The answer is what is made, or the flaw why not; out of memory says nothing, and the limit of
+-- results says that the search had begun.
+abbrev pub IsMadeAnswer : Type 0 → Result (List ℕ) ProveFlaw → Result (Vec ℕ Global) ProveFault
+    → Type 0
+IsMadeAnswer Begun made (Ok out) = made ≡ Ok out.items
+IsMadeAnswer Begun made (Err (At flaw)) = made ≡ Err flaw
+IsMadeAnswer Begun made (Err Memory) = Unit {0}
+IsMadeAnswer Begun made (Err Results) = Begun
 
--- what `prove` answers
+-- what `prove` answers; results are counted only of a container that passes clauses 1 to 5
 abbrev pub IsProveAnswer : PolicyView → List ℕ → Result (Vec ℕ Global) ProveFault → Type 0
-IsProveAnswer policy bytes result = IsMadeAnswer (proved_container policy bytes) result
+IsProveAnswer policy bytes result =
+    IsMadeAnswer (PassesUntyped policy bytes) (proved_container policy bytes) result

@@ -12,7 +12,7 @@ ghost use Rattle.proof_container.specs.Views.{AreKnown, view_contents, contents_
 ghost use Rattle.proof_container.specs.declared.limits.TheConstants.{MAX_ENTRIES};
 ghost use Rattle.vcgen.specs.declared.condition.TheConstants.{MAX_HEIGHT};
 ghost use Rattle.proof_container.specs.Versions.{signature_of};
-ghost use Rattle.pcc_gate.specs.Passing.{Passes};
+ghost use Rattle.pcc_gate.specs.Passing.{Passes, PassesUntyped};
 ghost use Rattle.pcc_gate.specs.Accepted.{IsAccepted};
 ghost use Rattle.pcc_gate.specs.Answers.{IsHeld, HasGoodLemmas};
 ghost use Rattle.prover_conditions.specs.Conditions.{condition_parts};
@@ -72,7 +72,7 @@ fn written(alloc: Global, view: &View<'_>, proof: Id) -> Result<Vec<u8>, ProveFa
         → IsContents (view_contents view.now) }
     ensures limit { NeedsLimit false Results result }
     ensures made { let c = view_contents view.now in
-        IsMadeAnswer (encoded_unless (excess c (tree_at view.now.table.now proof)) c) result }
+        IsMadeAnswer ⊥ (encoded_unless (excess c (tree_at view.now.table.now proof)) c) result }
 {
     match excess(alloc, view, proof) {
         Err(_) => Err(ProveFault::Memory),
@@ -99,7 +99,7 @@ fn proved(
     requires held { IsHeld passed.container }
     ensures made { let c = contents_of passed.entry.container in
         let parts = condition_parts policy.now c.bound passed.entry.cut.code c.invs in
-        IsMadeAnswer (proved_contents c parts) result }
+        IsMadeAnswer (PassesUntyped policy.now bytes.now) (proved_contents c parts) result }
     ensures limit { NeedsLimit limited Results result }
 {
     let _ = bytes; // only the clauses speak of it
@@ -138,12 +138,7 @@ fn proved(
 }
 
 /// The result of `prove_within`.
-fn made(
-    alloc: Global,
-    limited: bool,
-    policy: &Policy,
-    bytes: &[u8],
-) -> Result<Vec<u8>, ProveFault>
+fn made(alloc: Global, limited: bool, policy: &Policy, bytes: &[u8]) -> Result<Vec<u8>, ProveFault>
     ensures exact { IsProveAnswer policy.now bytes.now result }
     ensures limit { NeedsLimit limited Results result }
 {
@@ -166,9 +161,9 @@ fn made(
 /// that of invariant k. `TooBig` names the first measure that is past its limit, with its value:
 /// the weight of the proof with the lemmas' proofs (`pcc_gate::MAX_WEIGHT`), the proof's height
 /// (`vcgen::MAX_HEIGHT`), the container's entries and bytes (`proof_container::MAX_ENTRIES`,
-/// `MAX_BYTES`). `Memory` and `Results` say nothing about `bytes`: the call ran out of memory, or
-/// the results that the search caches and the terms that it builds were more than
-/// `prover_conditions::MOST_SEARCHED`.
+/// `MAX_BYTES`). `Memory` says nothing about `bytes`. `Results`: what is cached passed a limit, that
+/// of the container checker or, for the search with the terms that it builds,
+/// `prover_conditions::MOST_SEARCHED`; it comes only after checks 1 to 5.
 pub fn prove(alloc: Global, policy: &Policy, bytes: &[u8]) -> Result<Vec<u8>, ProveFault>
     ensures exact { IsProveAnswer policy.now bytes.now result }
     ensures accepted { IfOk result (λ out. IsAccepted policy.now out.items) }

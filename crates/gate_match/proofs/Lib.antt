@@ -1,3 +1,4 @@
 pub mod Sides
 pub mod Lacking
 pub mod Growing
+mod Spending

@@ -14,7 +14,7 @@ ghost use Rattle.lf_encode.specs.PutTree.{machine_terms_at};
 ghost use Rattle.lf_encode.specs.Contexts.{machine_context, encoding_in};
 ghost use Rattle.lf_signature.specs.declared.WordSignature.TheVariants.{Sigma3};
 ghost use Rattle.vcgen.specs.Encoded.{AreForms};
-ghost use Rattle.vcgen.specs.Answers.{AreLowInvs};
+ghost use Rattle.vcgen.specs.Answers.{AreLowInvs, SpendsVc};
 ghost use Rattle.gate_match.specs.Answers.{IsConditionAnswer};
 ghost use Rattle.vcgen.specs.WalkTree.{start_terms, entry_terms, closed_term};
 ghost use Rattle.vcgen.specs.WalkTree.{walked, walked_from};
@@ -254,6 +254,7 @@ pub fn is_condition_with(
         IsConditionAnswer policy.now bound cut.now trees (tree_at table.old formula) result }
     ensures extends { Extends table.old table.new }
     ensures memo { IsMemo table.new memo.new }
+    ensures spends { SpendsVc table.new memo.old memo.new result }
 {
     let unfolded = cut.unfolded();
     if unfolded > MAX_UNFOLDED {

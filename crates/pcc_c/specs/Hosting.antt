@@ -1,5 +1,5 @@
 -- What the exports about hosts answer.
-use Rattle.std.specs.Prelude.{◌≡◌, ◌⊎◌, ◌<◌, ◌≤◌, ℕ, List, length, Option, Some, None, option_map, Result, Ok, Err}
+use Rattle.std.specs.Prelude.{◌≡◌, ◌⊎◌, ◌<◌, ◌≤◌, ℕ, List, length, Option, Some, None, option_map, Result, Ok}
 use Rattle.term_table.specs.Steps.{◌>>=◌}
 use Rattle.alpha_cfg.specs.declared.outcome.Outcome.TheVariants.{Returned, OutOfSteps, Blocked}
 use Rattle.policy_set.specs.Views.{PolicyView}

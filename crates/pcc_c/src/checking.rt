@@ -1,6 +1,6 @@
 //! Whether a container is accepted.
 
-ghost use Rattle.std.specs.Prelude.{◌≡◌, IfOk, OnOk};
+ghost use Rattle.std.specs.Prelude.{OnOk};
 ghost use Rattle.pcc_c.specs.Checking.{refusal_answer, check_answer, IsCheckStatus};
 ghost use Rattle.pcc_c.specs.Checking.{IsSafeCode, IsSafeUnder, SafeIfDone};
 ghost use Rattle.pcc_gate.specs.First.{first_refusal};

@@ -1,6 +1,5 @@
 //! The result of a packet, for C.
 
-ghost use Rattle.std.specs.Prelude.{◌≡◌};
 ghost use Rattle.safe_host.specs.Runners.{ended_result};
 ghost use Rattle.pcc_c.specs.Hosting.{ShowsResult};
 

@@ -30,7 +30,6 @@ use Rattle.proof_container.specs.declared.container.Head.TheVariants.{Digest}
 use Rattle.proof_container.specs.Encoding.{IsContents, policy_bytes, bound_fields, encoding_of}
 use Rattle.proof_container.specs.Postorder.{entries}
 use Rattle.proof_container.proofs.Written.{length-encoding_of}
-use Rattle.term_table.specs.Bytes.{IsBytes}
 use Rattle.term_table.specs.Tree.{Tree, Var}
 use Rattle.vcgen.specs.Assignments.{unchanged}
 use Rattle.vcgen.specs.Conditions.{condition}

@@ -41,9 +41,9 @@ use Rattle.hereditary_subst.specs.declared.exhausted.Exhausted.{Exhausted}
 use Rattle.hereditary_subst.specs.declared.exhausted.Exhausted.TheVariants as exhausted
 use Rattle.pcc_gate.specs.Shortages.{gate_shortage_of}
 use Rattle.pcc_gate.specs.Answers.{IsHeld, IsFrontAnswer, HasGoodLemmas, IsLemmaFrontAnswer, IsGateAnswer}
-use Rattle.pcc_gate.specs.Passing.{AreLow, Passes}
+use Rattle.pcc_gate.specs.Passing.{AreLow, Passes, PassesUntyped}
 use Rattle.pcc_gate.specs.Inside.Stages.{Refuses, RefusesBytes, IsRead}
-use Rattle.pcc_gate.specs.Inside.Passed.{IsRest, IsRestAnswer, IsPassedAnswer}
+use Rattle.pcc_gate.specs.Inside.Passed.{IsRest, IsRestAnswer, IsUntyped, CountsUntyped, IsPassedAnswer}
 use Rattle.pcc_gate.proofs.Searches.{within, none_low, none_forms, none_formulas, none_proved}
 use Rattle.pcc_gate.proofs.FirstFront.{front-none, after_policy, after_all}
 use Rattle.pcc_gate.proofs.Refusing.{refuses-into}
@@ -77,11 +77,25 @@ module _ (policy : PolicyView) (bytes : List ℕ) where
     unfolded = k.shaped.short;
   }
 
-  pub rest-passed : (c : Contents) → IsRead policy bytes c → (a : Result Passed GateFault) → IsRestAnswer c a → IsPassedAnswer policy bytes a
-  rest-passed c r (Ok p) k = (subst (λ x. Passes policy bytes x p.cut.code p.cut.marks) (sym k.contents) (rest-passes c r p k), k.held)
-  rest-passed c r (Err (fault.Refused x)) k = λ next. read-first c r next ∙ k (next c)
-  rest-passed c r (Err fault.Memory) k = r.size
-  rest-passed c r (Err fault.Results) k = r.size
+  -- what passes clauses 4 and 5 passes 1 to 5
+  rest-untyped : (c : Contents) → IsRead policy bytes c → IsUntyped c → PassesUntyped policy bytes
+  rest-untyped c r u = record {
+    contents = c;
+    insns = u.insns;
+    size = r.size;
+    container = r.encoded;
+    named = r.named;
+    encoded = u.encoded;
+    code = u.code;
+    heights = u.heights;
+  }
+
+  pub rest-passed : (c : Contents) → IsRead policy bytes c → (a : Result Passed GateFault)
+      → IsRestAnswer c a → CountsUntyped c a → IsPassedAnswer policy bytes a
+  rest-passed c r (Ok p) k t = (subst (λ x. Passes policy bytes x p.cut.code p.cut.marks) (sym k.contents) (rest-passes c r p k), k.held)
+  rest-passed c r (Err (fault.Refused x)) k t = λ next. read-first c r next ∙ k (next c)
+  rest-passed c r (Err fault.Memory) k t = r.size
+  rest-passed c r (Err fault.Results) k t = rest-untyped c r (t refl)
 
 -- clause 4 passes
 pub code-refuses : (c : Contents) (code : List Insn)
@@ -125,6 +139,19 @@ module _ (policy : PolicyView) (bytes : List ℕ) (c : Contents) (code : List In
   front-next : (next : Contents → List Insn → Option Refusal) → first_front policy bytes next ≡ next c code
   front-next next = after_all policy bytes next c code marks p
 
+  -- and passes 1 to 5
+  untyped : PassesUntyped policy bytes
+  untyped = record {
+    contents = c;
+    insns = code;
+    size = p.size;
+    container = p.container;
+    named = p.named;
+    encoded = p.encoded;
+    code = p.code;
+    heights = p.heights;
+  }
+
   abbrev sig : WordSignature
   sig = signature_of c.version
 
@@ -133,7 +160,7 @@ module _ (policy : PolicyView) (bytes : List ℕ) (c : Contents) (code : List In
   unfolding first_refusal
   gate-refused (fault.Refused r) h = front-next (first_after policy) ∙ h (vc_of policy c.bound code c.invs)
   gate-refused fault.Memory h = p.size
-  gate-refused fault.Results h = p.size
+  gate-refused fault.Results h = untyped
 
   module _ (proof : Tree) (given : c.proof ≡ Some proof)
       (weight : proof_weight sig c.lemmas proof ≤ MAX_WEIGHT) where
@@ -158,7 +185,7 @@ module _ (policy : PolicyView) (bytes : List ℕ) (c : Contents) (code : List In
         let vc : Tree = vc_of policy c.bound code c.invs in
         front-next (first_after policy) ∙ light vc ∙ h (judged vc)
     gate-unproved fault.Memory h = p.size
-    gate-unproved fault.Results h = p.size
+    gate-unproved fault.Results h = untyped
 
     module _ (lemmas : lemma_unproved sig c.lemmas ≡ None) where
       -- what comes behind clause 14
@@ -173,7 +200,7 @@ module _ (policy : PolicyView) (bytes : List ℕ) (c : Contents) (code : List In
           front-next (first_after policy) ∙ last (vc_of policy c.bound code c.invs)
           ∙ ap (λ b. cond b None (Some refusal.NotProof)) h.0 ∙ ap Some (sym h.1)
       gate-judged fault.Memory h = p.size
-      gate-judged fault.Results h = p.size
+      gate-judged fault.Results h = untyped
 
       pub gate-none : proves sig c.lemmas proof (vc_of policy c.bound code c.invs) ≡ true →
           first_refusal policy bytes ≡ None
@@ -205,7 +232,7 @@ module _ (policy : PolicyView) (bytes : List ℕ) (c : Contents) (code : List In
   unfolding lemma_refusal
   lemmas-refused (fault.Refused r) h = front-next first_of_lemmas ∙ h None
   lemmas-refused fault.Memory h = p.size
-  lemmas-refused fault.Results h = p.size
+  lemmas-refused fault.Results h = untyped
 
   module _ (weight : lemmas_weight sig c.lemmas ≤ MAX_WEIGHT) where
     lemmas-light : (next : Option Refusal) →
@@ -222,7 +249,7 @@ module _ (policy : PolicyView) (bytes : List ℕ) (c : Contents) (code : List In
     unfolding lemma_refusal
     lemmas-unproved (fault.Refused r) h = front-next first_of_lemmas ∙ lemmas-light None ∙ h None
     lemmas-unproved fault.Memory h = p.size
-    lemmas-unproved fault.Results h = p.size
+    lemmas-unproved fault.Results h = untyped
 
     pub lemmas-good : lemma_unproved sig c.lemmas ≡ None →
         Passes policy bytes c code marks × HasGoodLemmas c × (lemma_refusal policy bytes ≡ None)

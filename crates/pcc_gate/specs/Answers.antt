@@ -12,7 +12,7 @@ use Rattle.proof_container.specs.declared.container.Container.{Container}
 use Rattle.pcc_gate.specs.declared.fault.GateFault.{GateFault}
 use Rattle.pcc_gate.specs.declared.fault.GateFault.TheVariants.{Refused, Memory, Results}
 use Rattle.pcc_gate.specs.declared.passing.Passed.{Passed}
-use Rattle.pcc_gate.specs.Passing.{Passes}
+use Rattle.pcc_gate.specs.Passing.{Passes, PassesUntyped}
 use Rattle.pcc_gate.specs.First.{front_refusal, lemma_refusal, first_refusal}
 use Rattle.pcc_gate.specs.Weights.{lemmas_weight}
 use Rattle.pcc_gate.specs.declared.limits.TheConstants.{MAX_WEIGHT}
@@ -28,12 +28,13 @@ pub record IsHeld (c : Container) : Type 0 where
   pub places : c.table.places ≡ places_of (signature_of c.version)
 
 -- The clauses before the proof hold of what is passed on; a refusal is the first of them that
--- fails; where memory or the results that may be kept ran out, the bytes aren't too many.
+-- fails; where memory ran out, the bytes aren't too many. Results are counted only of a container
+-- that passes clauses 1 to 5.
 abbrev pub IsFrontAnswer : PolicyView → List ℕ → Result Passed GateFault → Type 0
 IsFrontAnswer policy bytes (Ok p) = Passes policy bytes (contents_of p.container) p.cut.code p.cut.marks × (front_refusal policy bytes ≡ None)
 IsFrontAnswer policy bytes (Err (Refused r)) = front_refusal policy bytes ≡ Some r
 IsFrontAnswer policy bytes (Err Memory) = length bytes ≤ MAX_BYTES
-IsFrontAnswer policy bytes (Err Results) = length bytes ≤ MAX_BYTES
+IsFrontAnswer policy bytes (Err Results) = PassesUntyped policy bytes
 
 -- the lemmas of the contents aren't too heavy, and each one's proof proves its formula with those
 -- before it
@@ -42,15 +43,15 @@ pub record HasGoodLemmas (c : Contents) : Type 0 where
   pub proved : LemmasCheck (declared (signature_of c.version)) c.lemmas
 
 -- The clauses before the proof hold of what is passed on, and of its lemmas alone 10 and 14; a
--- refusal is the first of these that fails; where memory or the results that may be kept ran out,
--- the bytes aren't too many.
+-- refusal is the first of these that fails; where memory ran out, the bytes aren't too many.
+-- Results are counted only of a container that passes clauses 1 to 5.
 abbrev pub IsLemmaFrontAnswer : PolicyView → List ℕ → Result Passed GateFault → Type 0
 IsLemmaFrontAnswer policy bytes (Ok p) =
     Passes policy bytes (contents_of p.container) p.cut.code p.cut.marks
     × HasGoodLemmas (contents_of p.container) × (lemma_refusal policy bytes ≡ None)
 IsLemmaFrontAnswer policy bytes (Err (Refused r)) = lemma_refusal policy bytes ≡ Some r
 IsLemmaFrontAnswer policy bytes (Err Memory) = length bytes ≤ MAX_BYTES
-IsLemmaFrontAnswer policy bytes (Err Results) = length bytes ≤ MAX_BYTES
+IsLemmaFrontAnswer policy bytes (Err Results) = PassesUntyped policy bytes
 
 -- What the gate shows of accepted bytes: the policy, the bound, the code with its flags, and the
 -- invariants of their contents.
@@ -62,10 +63,10 @@ pub record IsAcceptedBy (policy : PolicyView) (bytes : List ℕ) (a : AcceptedVi
   pub accepts : Accepts policy bytes contents a.code a.marks
   pub first : first_refusal policy bytes ≡ None
 
--- All clauses hold of what is accepted; a refusal is the first of them that fails; where memory or
--- the results that may be kept ran out, the bytes aren't too many.
+-- All clauses hold of what is accepted; a refusal is the first of them that fails; where memory ran
+-- out, the bytes aren't too many. Results are counted only of a container that passes clauses 1 to 5.
 abbrev pub IsGateAnswer : PolicyView → List ℕ → Result AcceptedView GateFault → Type 0
 IsGateAnswer policy bytes (Ok a) = IsAcceptedBy policy bytes a
 IsGateAnswer policy bytes (Err (Refused r)) = first_refusal policy bytes ≡ Some r
 IsGateAnswer policy bytes (Err Memory) = length bytes ≤ MAX_BYTES
-IsGateAnswer policy bytes (Err Results) = length bytes ≤ MAX_BYTES
+IsGateAnswer policy bytes (Err Results) = PassesUntyped policy bytes

@@ -23,6 +23,23 @@ use Rattle.pcc_gate.specs.ForPolicy.{IsFor}
 abbrev pub AreLow : List Tree → Type 0
 AreLow ts = All (λ t. height_of t ≤ MAX_HEIGHT) ts
 
+-- Clauses 1 to 5, which type no term: the bytes hold contents for the policy, with code, and no
+-- root is too high.
+pub record PassesUntyped (policy : PolicyView) (bytes : List ℕ) : Type 0 where
+  pub contents : Contents
+  pub insns : List Insn
+  -- 1: the bytes aren't too many
+  pub size : length bytes ≤ MAX_BYTES
+  -- 2: they are the encoding of the contents
+  pub container : EncodesContents bytes contents
+  -- 3: which are for the policy
+  pub named : IsFor policy contents.head
+  -- 4: the code bytes encode code, in the profile of the version
+  pub encoded : EncodesCode (profile_of contents.version) contents.code insns
+  pub code : IsCode insns
+  -- 5: no root is too high
+  pub heights : AreLow (roots contents)
+
 -- Clauses 1 to 8 and 13, in their order: the bytes hold this code with these contents, for the
 -- policy.
 pub record Passes (policy : PolicyView) (bytes : List ℕ) (contents : Contents) (insns : List Insn)

@@ -74,7 +74,7 @@ fn judge(
 /// Errors: `Refused` names the first check that fails (`specs/First`), exactly if one does; the
 /// checks are tried in order. `Memory` says nothing about `bytes`. One cache of at most
 /// `MOST_RESULTS` results and judgements serves the invariants, the lemmas, the condition and the
-/// proof; past that the call returns `Results`.
+/// proof; past that the call returns `Results`, which comes only after checks 1 to 5.
 pub fn gate(alloc: Global, policy: &Policy, bytes: &[u8]) -> Result<Accepted, GateFault>
     ensures exact { IsGateAnswer policy.now bytes.now result }
     ensures written_out { IsWrittenOutAnswer policy.now bytes.now result }

@@ -12,8 +12,8 @@ ghost use Rattle.proof_container.specs.Encoding.{IsContents};
 ghost use Rattle.proof_container.specs.declared.limits.TheConstants.{MAX_INVS, MAX_LEMMAS};
 ghost use Rattle.pcc_gate.specs.Answers.{IsHeld, IsFrontAnswer, IsLemmaFrontAnswer};
 ghost use Rattle.pcc_gate.specs.Passing.{Passes};
-ghost use Rattle.pcc_gate.specs.Inside.Stages.{with_roots, AreFormed, IsShapeAnswer};
-ghost use Rattle.pcc_gate.specs.Inside.Passed.{IsRestAnswer, IsPassedAnswer};
+ghost use Rattle.pcc_gate.specs.Inside.Stages.{with_roots, AreFormed, IsShapeAnswer, CountsLow};
+ghost use Rattle.pcc_gate.specs.Inside.Passed.{IsRestAnswer, IsPassedAnswer, CountsUntyped};
 ghost use Rattle.lf_signature.specs.declared.WordSignature.{WordSignature};
 ghost use Rattle.hereditary_subst.specs.Limits.{is_limited, NeedsLimit};
 ghost use Rattle.pcc_gate.specs.declared.fault.GateFault.TheVariants.{Results};
@@ -95,6 +95,7 @@ fn shaped(
     ensures kept { OnOk result (AreKept (declared signature) table.new kept.new) }
     ensures limited { is_limited kept.new.memo ≡ is_limited kept.old.memo }
     ensures limit { NeedsLimit (is_limited kept.old.memo) Results result }
+    ensures typed { CountsLow (with_roots table.old bound invs.now lemmas.now proof) result }
 {
     if let Some(height) = first_too_high(table, invs, lemmas, proof, 0) {
         return Err(GateFault::Refused(Refusal::Height(height)));
@@ -120,6 +121,7 @@ fn rest<'b>(
         AreKept (declared s) p.container.table kept.new) }
     ensures limited { is_limited kept.new.memo ≡ is_limited kept.old.memo }
     ensures limit { NeedsLimit (is_limited kept.old.memo) Results result }
+    ensures typed { CountsUntyped (contents_of container.entry) result }
 {
     let mut container = container;
     let profile = profile_of(container.version);
@@ -169,7 +171,8 @@ pub(crate) fn pass<'b>(
 ///
 /// Errors: `Refused` names the first of these checks that fails (`specs/First`), exactly if one
 /// does. `Memory` says nothing about `bytes`. One cache of at most `MOST_RESULTS` results and
-/// judgements serves all invariants and the lemmas' formulas; past that the call returns `Results`.
+/// judgements serves all invariants and the lemmas' formulas; past that the call returns `Results`,
+/// which comes only after checks 1 to 5.
 pub fn front<'b>(alloc: Global, policy: &Policy, bytes: &'b [u8]) -> Result<Passed<'b>, GateFault>
     ensures exact { IsFrontAnswer policy.now bytes.now result }
     ensures held { IfOk result (λ p. IsHeld p.container) }

@@ -59,8 +59,7 @@ fn by_quantified(
             let found = by_grant(table, search, context, asked, &grant)?;
             Ok(found)
         }
-        FormNode::True => Ok(None),
-        FormNode::False => Ok(None),
+        FormNode::True | FormNode::False => Ok(None),
         FormNode::Relation(_, _, _) => Ok(None),
         FormNode::Right(_, _) => Ok(None),
         FormNode::And(_, _) => Ok(None),

@@ -14,7 +14,7 @@ ghost use Rattle.prover_class.specs.Hypotheses.{Hyps};
 ghost use Rattle.prover_class.specs.Access.{without_access, Opened, opening_of, opened_by, opened_with, opened_at, from_side};
 ghost use Rattle.prover_class.specs.Access as class;
 ghost use Rattle.prover_goals.specs.Search.{IsSearch, IsContext, IsAfter};
-ghost use Rattle.prover_conditions.specs.Inside.AccessIds.{access_of, side_of, IsKnownGrant, IsKnownOpening, IsKnownFound, IfOpened, IfFound, IsOpeningAt, IsFoundHere, IsWalk, IsBothWalk, AreMisses};
+ghost use Rattle.prover_conditions.specs.Inside.AccessIds.{access_of, side_of, IsKnownGrant, IsKnownOpening, IsKnownFound, IfOpened, IfFound, IsOpeningAt, IsFoundHere, IsWalk, IsBothWalk, Missed};
 ghost use Rattle.hereditary_subst.specs.Limits.{SpendsResults};
 
 use crate::access_instances::instance_of;
@@ -330,15 +330,13 @@ pub(crate) fn walk(
     requires form { IsKnown table.old form }
     requires search { IsSearch table.old search.old }
     requires context { IsContext table.old context.old }
-    requires misses { let c = context.old in
-        AreMisses table.old c.hyps c.outside asked.now grant.now misses.old }
+    requires misses { Missed table.old context.old asked.now grant.now misses.old }
     ensures known { IfOk result (λ o. IfSome o (IsKnownFound table.new)) }
     ensures exact { let c = context.old in IfOk result (IsWalk table.old table.new c.hyps
         c.outside asked.now grant.now form) }
     ensures extends { Extends table.old table.new }
     ensures after { OnOk result (IsAfter table.new search.new context.old context.new) }
-    ensures misses { let c = context.new in OnOk result (AreMisses table.new c.hyps c.outside
-        asked.now grant.now misses.new) }
+    ensures misses { OnOk result (Missed table.new context.new asked.now grant.now misses.new) }
     ensures spends { SpendsResults table.new search.old.memo search.new.memo result }
 {
     let part = part_of(form);
@@ -372,15 +370,13 @@ fn walk_parts(
     requires form { IsKnown table.old form }
     requires search { IsSearch table.old search.old }
     requires context { IsContext table.old context.old }
-    requires misses { let c = context.old in
-        AreMisses table.old c.hyps c.outside asked.now grant.now misses.old }
+    requires misses { Missed table.old context.old asked.now grant.now misses.old }
     ensures known { IfOk result (λ o. IfSome o (IsKnownFound table.new)) }
     ensures exact { let c = context.old in IfOk result (IsWalk table.old table.new c.hyps
         c.outside asked.now grant.now form) }
     ensures extends { Extends table.old table.new }
     ensures after { OnOk result (IsAfter table.new search.new context.old context.new) }
-    ensures misses { let c = context.new in OnOk result (AreMisses table.new c.hyps c.outside
-        asked.now grant.now misses.new) }
+    ensures misses { OnOk result (Missed table.new context.new asked.now grant.now misses.new) }
     ensures spends { SpendsResults table.new search.old.memo search.new.memo result }
 {
     match form_node(table, form) {
@@ -425,15 +421,13 @@ fn walk_both(
     requires below { (a < form) × (b < form) }
     requires search { IsSearch table.old search.old }
     requires context { IsContext table.old context.old }
-    requires misses { let c = context.old in
-        AreMisses table.old c.hyps c.outside asked.now grant.now misses.old }
+    requires misses { Missed table.old context.old asked.now grant.now misses.old }
     ensures known { IfOk result (λ o. IfSome o (IsKnownFound table.new)) }
     ensures exact { let c = context.old in IfOk result (IsBothWalk table.old table.new c.hyps
         c.outside asked.now grant.now a b) }
     ensures extends { Extends table.old table.new }
     ensures after { OnOk result (IsAfter table.new search.new context.old context.new) }
-    ensures misses { let c = context.new in OnOk result (AreMisses table.new c.hyps c.outside
-        asked.now grant.now misses.new) }
+    ensures misses { OnOk result (Missed table.new context.new asked.now grant.now misses.new) }
     ensures spends { SpendsResults table.new search.old.memo search.new.memo result }
 {
     match walk(table, search, context, asked, grant, misses, a)? {

@@ -29,12 +29,12 @@ ghost use Rattle.hereditary_subst.specs.declared.exhausted.Exhausted.TheVariants
 
 use crate::parts::{ConditionProof, proof_of_parts};
 use alpha_cfg::Cut;
-use hereditary_subst::Exhausted;
+use hereditary_subst::{Exhausted, MOST_RESULTS, Memo};
 use policy_set::Policy;
 use prover_class::class_laws;
 use prover_goals::Search;
 use term_table::{Id, Table};
-use vcgen::{VcFault, vc_within};
+use vcgen::{VcFault, vc_with};
 
 /// The most results that the search for a proof caches, counting its terms and steps. It is more
 /// than a check's limit, since a goal that occurs in 2^16 contexts has to be decided in each.
@@ -82,7 +82,8 @@ pub fn condition_in(
     ensures extends { Extends table.old table.new }
     ensures limit { NeedsLimit limited Results result }
 {
-    match vc_within(table, limited, cut, policy, invs, bound) {
+    let mut memo = Memo::within(table.allocator(), limited, MOST_RESULTS);
+    match vc_with(table, &mut memo, cut, policy, invs, bound) {
         Ok(condition) => Ok(condition),
         Err(VcFault::Memory) => Err(Exhausted::Memory),
         Err(VcFault::Results) => Err(Exhausted::Results),

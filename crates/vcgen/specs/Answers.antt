@@ -1,5 +1,5 @@
--- What `vc` answers.
-use Rattle.std.specs.Prelude.{◌≡◌, ℕ, ◌<◌, ◌≤◌, List, [], ◌∷◌, Option, Result, Ok, Err}
+-- What `vc` and `vc_with` answer.
+use Rattle.std.specs.Prelude.{◌≡◌, ℕ, ◌<◌, ◌≤◌, List, [], ◌∷◌, Option, Result, Ok, Err, IfErr}
 use Rattle.alpha_cfg.specs.Cuts.{CutView, unfolded_of}
 use Rattle.alpha_cfg.specs.Graph.{as_u32}
 use Rattle.policy_set.specs.Views.{PolicyView}
@@ -8,6 +8,8 @@ use Rattle.term_table.specs.Measures.{height_of}
 use Rattle.term_table.specs.Table.{TableView, IsKnown, tree_at}
 use Rattle.vcgen.specs.declared.fault.VcFault.{VcFault}
 use Rattle.vcgen.specs.declared.fault.VcFault.TheVariants.{UnfoldLimit, Memory, Results}
+use Rattle.hereditary_subst.specs.Limits.{is_limited, left_of, IsSpent}
+use Rattle.hereditary_subst.specs.declared.kept.Memo.{Memo}
 use Rattle.hereditary_subst.specs.declared.exhausted.Exhausted.{Exhausted}
 use Rattle.hereditary_subst.specs.declared.exhausted.Exhausted.TheVariants as exhausted
 use Rattle.vcgen.specs.declared.condition.TheConstants.{MAX_UNFOLDED, MAX_HEIGHT}
@@ -30,3 +32,8 @@ IsVcAnswer policy bound cut invs t (Ok id) = (unfolded_of cut.code cut.marks ≤
 IsVcAnswer policy bound cut invs t (Err (UnfoldLimit n)) = (MAX_UNFOLDED < unfolded_of cut.code cut.marks) × (n ≡ as_u32 (unfolded_of cut.code cut.marks))
 IsVcAnswer policy bound cut invs t (Err Memory) = unfolded_of cut.code cut.marks ≤ MAX_UNFOLDED
 IsVcAnswer policy bound cut invs t (Err Results) = unfolded_of cut.code cut.marks ≤ MAX_UNFOLDED
+
+-- what a call says that is given a memo and leaves it, and the table, so: there is a limit if there was, no more is left of it,
+-- and if the answer is `Results`, it is spent
+abbrev pub SpendsVc : {A : Type 0} → TableView → Memo → Memo → Result A VcFault → Type 0
+SpendsVc t old new r = (is_limited new ≡ is_limited old) × (left_of new ≤ left_of old) × IfErr r (λ f. f ≡ Results → IsSpent t new)

@@ -4,20 +4,19 @@ ghost use Rattle.std.specs.Prelude.{◌≡◌, ℕ, List, ◌<◌, ◌≤◌, If
 ghost use Rattle.alpha_cfg.specs.Cuts.{AreFlags};
 ghost use Rattle.term_table.specs.Table.{IsKnown, tree_at, Extends, id_trees};
 ghost use Rattle.hereditary_subst.specs.Kept.{IsMemo};
-ghost use Rattle.hereditary_subst.specs.Limits.{SpendsResults, NeedsLimit};
+ghost use Rattle.hereditary_subst.specs.Limits.{SpendsResults};
 ghost use Rattle.lf_signature.specs.Nodes.{IsIdOf};
 ghost use Rattle.lf_signature.specs.Terms.{imp_term};
 ghost use Rattle.lf_encode.specs.PutTree.{machine_terms_at};
 ghost use Rattle.lf_encode.specs.Contexts.{machine_context, encoding_in};
 ghost use Rattle.lf_signature.specs.declared.WordSignature.TheVariants.{Sigma3};
 ghost use Rattle.vcgen.specs.Encoded.{AreForms};
-ghost use Rattle.vcgen.specs.Answers.{IsVcAnswer, AreLowInvs};
+ghost use Rattle.vcgen.specs.Answers.{IsVcAnswer, AreLowInvs, SpendsVc};
 ghost use Rattle.vcgen.specs.WalkTree.{start_terms, all_terms};
 ghost use Rattle.vcgen.specs.WalkTree.{machine_term, closed_term};
 ghost use Rattle.vcgen.specs.WalkTree.{part_terms, condition_term};
 ghost use Rattle.vcgen.specs.Symbols.{ids_of, IsKnownProgram};
 ghost use Rattle.vcgen.specs.Inside.Walks.{Walks};
-ghost use Rattle.vcgen.specs.declared.fault.VcFault.TheVariants.{Results};
 
 use crate::fault::VcFault;
 use crate::symbols::Symbols;
@@ -214,16 +213,17 @@ pub fn vc(
         IsVcAnswer policy.now bound cut.now trees table.new result }
     ensures extends { Extends table.old table.new }
 {
-    vc_within(table, true, cut, policy, invs, bound)
+    let mut memo = Memo::new(table.allocator(), MOST_RESULTS);
+    vc_with(table, &mut memo, cut, policy, invs, bound)
 }
 
-/// Builds the encoding of the verification condition, as `vc` does, with the limit on cached
-/// results if `limited`, and else without one.
+/// Builds the encoding of the verification condition, as `vc` does, with the cached results of
+/// `memo` and under its limit, if it has one.
 ///
-/// Errors: as `vc`; `Results` only under the limit.
-pub fn vc_within(
+/// Errors: as `vc`; `Results` only if the limit of `memo` is reached.
+pub fn vc_with(
     table: &mut Table,
-    limited: bool,
+    memo: &mut Memo,
     cut: &Cut,
     policy: &Policy,
     invs: &[(u32, Id)],
@@ -232,18 +232,19 @@ pub fn vc_within(
     requires invs { AreLowInvs table.old invs.now }
     requires forms { AreForms Sigma3 bound (id_trees table.old invs.now) }
     requires marks { AreFlags (map (λ p. p.0) invs.now) (length cut.now.code) cut.now.marks }
+    requires memo { IsMemo table.old memo.old }
     ensures exact { let trees = id_trees table.old invs.now in
         IsVcAnswer policy.now bound cut.now trees table.new result }
     ensures extends { Extends table.old table.new }
-    ensures limit { NeedsLimit limited Results result }
+    ensures memo { IsMemo table.new memo.new }
+    ensures spends { SpendsVc table.new memo.old memo.new result }
 {
     let unfolded = cut.unfolded();
     if unfolded > MAX_UNFOLDED {
         return Err(VcFault::UnfoldLimit(unfolded));
     }
     policy.laws(); // tells the prover what the formulas name
-    let mut memo = Memo::within(table.allocator(), limited, MOST_RESULTS);
-    match encoded_condition(table, &mut memo, cut.code(), policy, invs, bound) {
+    match encoded_condition(table, memo, cut.code(), policy, invs, bound) {
         Ok(id) => Ok(id),
         Err(Exhausted::Memory) => Err(VcFault::Memory),
         Err(Exhausted::Results) => Err(VcFault::Results),

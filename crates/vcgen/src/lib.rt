@@ -21,7 +21,7 @@ mod symbols;
 mod theorems;
 mod walk;
 
-pub use condition::{MAX_HEIGHT, MAX_UNFOLDED, vc, vc_within};
+pub use condition::{MAX_HEIGHT, MAX_UNFOLDED, vc, vc_with};
 pub use effects::{Effect, counted_step, effect_at};
 pub use fault::VcFault;
 pub use symbols::Symbols;

@@ -1,13 +1,9 @@
 -- What commands are proved by.
 use Rattle.std.specs.Prelude.{Bool, is_ok, if◌then◌else◌}
 use Rattle.std.proofs.lemmas.Bool.{le-ltb}
-use Rattle.std.proofs.Common.{◌≡◌, ◌≢◌, true≢false, ℕ, zero, suc, ◌-◌, ◌≤◌, List, [], ◌∷◌, length, map, Option, Some, None, Result, Ok, Err, slice_get, refl, sym, ap, ◌∙◌, subst, arith}
-use Rattle.asm_text.specs.declared.fault.LineFlaw.{LineFlaw}
-use Rattle.asm_text.specs.declared.insns.SrcInsn.{SrcInsn}
+use Rattle.std.proofs.Common.{◌≡◌, ◌≢◌, true≢false, ℕ, zero, suc, ◌-◌, ◌≤◌, List, [], ◌∷◌, length, Option, Some, None, Result, Ok, Err, slice_get, refl, sym, ap, ◌∙◌, subst, arith}
 use Rattle.asm_text.specs.declared.sources.Source as source
-use Rattle.asm_text.specs.Insns.{SourceInsn}
 use Rattle.asm_text.specs.Sources.{Source}
-use Rattle.asm_text.specs.Views.{source_insn_view, source_view}
 use Rattle.packet_store.specs.Packets.{AreShort}
 use Rattle.packet_store.specs.declared.reader.TheConstants.{MAX_PACKET}
 use Rattle.proof_container.specs.Contents.{Contents}
@@ -20,7 +16,6 @@ use Rattle.view_container.specs.declared.stop.ListFault.TheVariants.{TooLong, Ma
 use Rattle.view_container.specs.Beside.{BesideView}
 use Rattle.view_container.specs.Listing.{listing_text, listing_of}
 use Rattle.pcc_words.specs.Commands.{IsVersionOf}
-use Rattle.pcc_stages.specs.Stage.{gives}
 
 -- ---- packets
 

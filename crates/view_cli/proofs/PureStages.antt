@@ -1,13 +1,9 @@
 -- What stages that read no file come to: a value, a refusal that isn't that of an unknown policy, or
 -- want of memory.
-use Rattle.std.proofs.Common.{◌≡◌, ℕ, ◌<◌, Bool, true, false, List, length, get_or, Option, is_some, if◌then◌else◌, Result, Ok, Err, refl, sym, ap, subst, arith}
+use Rattle.std.proofs.Common.{◌≡◌, ℕ, ◌<◌, Bool, true, false, List, length, get_or, Option, if◌then◌else◌, Result, Ok, Err, refl, sym, ap, subst, arith}
 use Rattle.alpha_words.specs.declared.insn.Insn.{Insn}
 use Rattle.alpha_cfg.specs.declared.fault.CodeFlaw.{CodeFlaw}
 use Rattle.alpha_cfg.specs.CodeDecoding.{decoded_code}
-use Rattle.asm_text.specs.declared.fault.LineFlaw.{LineFlaw}
-use Rattle.asm_text.specs.Names.{line_flaw_name}
-use Rattle.asm_text.specs.Sources.{Source}
-use Rattle.asm_text.specs.SourceParsing.{parsed_source}
 use Rattle.formula_text.specs.Names.{text_flaw_name}
 use Rattle.policy_set.specs.Views.{PolicyView}
 use Rattle.policy_set.specs.declared.fault.PolicyFlaw.{PolicyFlaw}

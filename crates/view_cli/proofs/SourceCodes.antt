@@ -1,5 +1,5 @@
 -- What the code of a source's text is, and what is noted of it beside code.
-use Rattle.std.proofs.Common.{◌≡◌, ◌↔◌, ℕ, Bool, List, [], map, Option, Some, None, is_some, Result, Ok, Err, refl, sym, ap, ◌∙◌, subst}
+use Rattle.std.proofs.Common.{◌≡◌, ◌↔◌, ℕ, List, [], map, Option, Some, None, is_some, Result, Ok, Err, refl, sym, ap, ◌∙◌}
 use Rattle.std.specs.Prelude.{option_and_then}
 use Rattle.word_ops.specs.declared.Profile.{Profile}
 use Rattle.alpha_words.specs.declared.insn.Insn.{Insn}
@@ -11,7 +11,7 @@ use Rattle.pcc_asm.specs.Assembling.{assembled_code}
 use Rattle.pcc_asm.specs.Words.{code_bytes}
 use Rattle.proof_container.specs.Versions.{profile_of}
 use Rattle.view_container.specs.Beside.{BesideView, first_other, difference_notes, notes_beside}
-use Rattle.view_source_faults.specs.SourceCode.{LinesAndCode, WrongLine, lines_and_code, code_of_parsed, source_code}
+use Rattle.view_source_faults.specs.SourceCode.{LinesAndCode, lines_and_code, code_of_parsed, source_code}
 
 -- the lines and the code are those of a source that was parsed and assembled
 pub record AreOfSource (p : Profile) (parsed : Result Source (ℕ × LineFlaw)) (x : LinesAndCode) : Type 0 where

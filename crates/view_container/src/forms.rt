@@ -1,9 +1,8 @@
 //! The formulas of invariants.
 
-ghost use Rattle.std.specs.Prelude.{◌≡◌, ◌<◌, ℕ, List, length, map, IfOk};
+ghost use Rattle.std.specs.Prelude.{◌≡◌, ◌<◌, map};
 ghost use Rattle.std.specs.List.{AllByRecursion};
-ghost use Rattle.term_table.specs.Table.{TableView, IsKnown, tree_at, Extends, id_trees};
-ghost use Rattle.lf_encode.specs.Contexts.{bound_sorts};
+ghost use Rattle.term_table.specs.Table.{IsKnown, id_trees};
 ghost use Rattle.vcgen.specs.Encoded.{context_of, AreForms};
 ghost use Rattle.view_entries.specs.Sizes.{tree_size};
 ghost use Rattle.pcc_gate.specs.First.{formulas};

@@ -25,7 +25,7 @@ use lf_signature::WordSignature;
 use lf_signature::numbers::FORM;
 use pcc_gate::{context_types, first_formless};
 use proof_container::{Container, profile_of};
-use std::alloc::{AllocError, Global};
+use std::alloc::Global;
 use term_table::{Id, Node, Table};
 use vcgen::MAX_HEIGHT;
 

@@ -1,6 +1,6 @@
 //! Listing the container that bytes encode.
 
-ghost use Rattle.std.specs.Prelude.{◌≡◌, ◌≤◌, ◌*◌, ◌<◌, length, map, IfOk};
+ghost use Rattle.std.specs.Prelude.{◌<◌, map, IfOk};
 ghost use Rattle.alpha_cfg.specs.Flow.{IsCode};
 ghost use Rattle.proof_container.specs.Encoding.{IsContents};
 ghost use Rattle.proof_container.specs.Views.{IsCanonical, contents_of};

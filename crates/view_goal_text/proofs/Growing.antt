@@ -3,7 +3,7 @@ use Rattle.std.proofs.Common.{◌≡◌, ℕ, List, [], ◌∷◌, map, drop, ge
 use Rattle.std.specs.Prelude.{All}
 use Rattle.std.proofs.lemmas.List.{get_or-drop, length-drop}
 use Rattle.std.proofs.lemmas.List.Elements.{All-head, All-tail}
-use Rattle.term_table.specs.Table.{TableView, IsKnown, Extends}
+use Rattle.term_table.specs.Table.{TableView, Extends}
 use Rattle.view_lines.proofs.Adding.{id-known}
 use Rattle.view_goals.specs.declared.rows.Row.{Row}
 use Rattle.view_goals.specs.declared.rows.Row.TheVariants as row

@@ -1,6 +1,5 @@
 //! Why goals aren't listed.
 
-ghost use Rattle.std.specs.Prelude.{◌≡◌};
 
 use hereditary_subst::Exhausted;
 use pcc_gate::Refusal;

@@ -1,6 +1,6 @@
 -- Whether an address that a hypothesis offers opens, and what its half says.
 use Rattle.std.proofs.Common.{◌≡◌, ℕ, Bool, true, false, true≢false, if◌then◌else◌, List, [], ◌∷◌, Option, option_map}
-use Rattle.std.proofs.Common.{Some, None, is_some, inl, inr, refl, sym, ◌∙◌, ap, subst}
+use Rattle.std.proofs.Common.{Some, None, is_some, inl, inr, refl, sym, ◌∙◌, ap}
 use Rattle.term_table.specs.Tree.{Tree, Var}
 use Rattle.term_table.specs.Subst.{bind}
 use Rattle.formula_tree.specs.Formulas.{Exp, Form, FTrue, FAnd, FImp, FAll}

@@ -1,5 +1,5 @@
 -- Which rows are left where goals that are easy are left out.
-use Rattle.std.specs.Prelude.{ℕ, ◌+◌, Bool, true, false, not, nat_le, if◌then◌else◌, List, [], ◌∷◌, drop, slice_index_or}
+use Rattle.std.specs.Prelude.{ℕ, Bool, true, false, not, nat_le, if◌then◌else◌, List, [], ◌∷◌, drop, slice_index_or}
 use Rattle.view_goals.specs.Rows.{RowView, GoalRow, BothRow, UnderRow}
 
 -- how many goals a row is

@@ -1,5 +1,5 @@
 -- The lines and the code of a source.
-use Rattle.std.proofs.Common.{◌≡◌, ℕ, Bool, List, [], ◌∷◌, map, Option, Result, Ok, Err, refl, sym, ap, ◌∙◌}
+use Rattle.std.proofs.Common.{◌≡◌, ℕ, List, [], ◌∷◌, map, Option, Result, Ok, Err, refl, sym, ap, ◌∙◌}
 use Rattle.alpha_words.specs.declared.insn.Insn.{Insn}
 use Rattle.asm_text.specs.declared.insns.SrcInsn.{SrcInsn}
 use Rattle.asm_text.specs.declared.sources.Source as source
@@ -15,7 +15,7 @@ use Rattle.pcc_asm.specs.Assembling.{with_code, assembled_code, assembled_conten
 use Rattle.pcc_asm.specs.Names.{asm_flaw_line, asm_flaw_name}
 use Rattle.pcc_asm.specs.Words.{code_bytes}
 use Rattle.view_source_faults.proofs.Assembled.{code_refused}
-use Rattle.view_source_faults.specs.SourceCode.{LinesAndCode, WrongLine, lines_and_code}
+use Rattle.view_source_faults.specs.SourceCode.{lines_and_code}
 
 -- instructions without addresses have the numbers of the same lines
 same-lines : (insns : List (ℕ × SrcInsn))

@@ -1,5 +1,5 @@
 -- The code that a text spells as a source, or the first line that is wrong.
-use Rattle.std.specs.Prelude.{◌≡◌, ℕ, List, map, is_some, Option, Result, Ok, Err}
+use Rattle.std.specs.Prelude.{ℕ, List, map, is_some, Option, Result, Ok, Err}
 use Rattle.word_ops.specs.declared.Profile.{Profile}
 use Rattle.alpha_words.specs.declared.insn.Insn.{Insn}
 use Rattle.asm_text.specs.declared.fault.LineFlaw.{LineFlaw}

@@ -1,5 +1,5 @@
 -- What is said of a text that is to spell a source.
-use Rattle.std.specs.Prelude.{ℕ, Bool, true, false, List, [], ◌++◌, codes, decimal, length, is_some, Option, Some, None, Result, Ok, Err}
+use Rattle.std.specs.Prelude.{ℕ, Bool, true, false, List, ◌++◌, codes, decimal, length, is_some, Option, Result, Ok, Err}
 use Rattle.word_ops.specs.declared.Profile.{Profile}
 use Rattle.alpha_words.specs.declared.insn.Insn.{Insn}
 use Rattle.proof_container.specs.Versions.{profile_of}

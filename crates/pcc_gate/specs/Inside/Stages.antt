@@ -1,5 +1,5 @@
 -- What each stage of the gate answers.
-use Rattle.std.specs.Prelude.{◌≡◌, ℕ, ◌≤◌, List, [], ◌++◌, Bool, Option, None, Result, Ok, Err, map, length}
+use Rattle.std.specs.Prelude.{◌≡◌, ℕ, ◌≤◌, List, [], ◌++◌, Bool, Option, None, Result, Ok, Err, IfErr, map, length}
 use Rattle.std.specs.Option.{option_map}
 use Rattle.alpha_words.specs.declared.insn.Insn.{Insn}
 use Rattle.alpha_cfg.specs.CodeBytes.{EncodesCode}
@@ -27,6 +27,7 @@ use Rattle.word_ops.specs.declared.Profile.{Profile}
 use Rattle.lf_signature.specs.declared.WordSignature.{WordSignature}
 use Rattle.proof_container.specs.declared.container.Head.TheVariants.{Number}
 use Rattle.pcc_gate.specs.ForPolicy.{IsFor}
+use Rattle.pcc_gate.specs.Passing.{PassesUntyped}
 
 -- the trees of the roots behind the invariants, by their ids
 abbrev pub later_trees : TableView → List (ℕ × ℕ) → Option ℕ → List Tree
@@ -45,11 +46,12 @@ Refuses {N} first (fault.Refused r) = (next : N) → first next ≡ Option.Some 
 Refuses first fault.Memory = Unit {0}
 Refuses first fault.Results = Unit {0}
 
--- a refusal of bytes, whatever comes after; what ran out says that they aren't too many
+-- a refusal of bytes, whatever comes after; memory ran out of bytes that aren't too many, and
+-- results of such as pass clauses 1 to 5
 abbrev pub RefusesBytes : PolicyView → List ℕ → GateFault → Type 0
 RefusesBytes policy bytes (fault.Refused r) = (next : Contents → List Insn → Option Refusal) → first_front policy bytes next ≡ Option.Some r
 RefusesBytes policy bytes fault.Memory = length bytes ≤ MAX_BYTES
-RefusesBytes policy bytes fault.Results = length bytes ≤ MAX_BYTES
+RefusesBytes policy bytes fault.Results = PassesUntyped policy bytes
 
 -- the contents pass clauses 1 to 3
 pub record IsRead (policy : PolicyView) (bytes : List ℕ) (c : Contents) : Type 0 where
@@ -134,3 +136,7 @@ pub record IsShaped (s : WordSignature) (c : Contents) (code : List Insn) (cut :
 abbrev pub IsShapeAnswer : WordSignature → Contents → List Insn → Result CutView GateFault → Type 0
 IsShapeAnswer s c code (Ok cut) = IsShaped s c code cut
 IsShapeAnswer s c code (Err e) = Refuses (first_shape s c code) e
+
+-- results are counted only where no root of the contents is too high
+abbrev pub CountsLow : {A : Type 0} → Contents → Result A GateFault → Type 0
+CountsLow c r = IfErr r (λ e. e ≡ fault.Results → too_high (roots c) ≡ None)

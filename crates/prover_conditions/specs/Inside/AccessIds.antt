@@ -9,6 +9,7 @@ use Rattle.prover_ids.specs.Hypotheses.{AreHyps}
 use Rattle.prover_ids.specs.declared.forms.Access.{Access}
 use Rattle.prover_ids.specs.declared.forms.Access.TheVariants.{Load, Store}
 use Rattle.prover_ids.specs.declared.hypotheses.Hypothesis.{Hypothesis}
+use Rattle.prover_goals.specs.declared.search.Context.{Context}
 use Rattle.prover_class.specs.Hypotheses.{Hyps}
 use Rattle.prover_class.specs.Access.{Opened, opened_at, no_way, first_opened, by_grant}
 use Rattle.prover_class.specs.Access as class
@@ -126,6 +127,10 @@ IsBothWalk t u hyps outside asked grant left right o =
 abbrev pub AreMisses : TableView → List Hypothesis → ℕ → Asked → Grant → BTreeSet Part → Type 0
 AreMisses t hyps outside asked grant misses =
     (k : Part) → contains block.ghosts.cmp misses k ≡ true → IsKnown t k.form × IsWalk t t hyps outside asked grant k.form None
+
+-- the same in a context
+abbrev pub Missed : TableView → Context → Asked → Grant → BTreeSet Part → Type 0
+Missed t c asked grant misses = AreMisses t c.hyps c.outside asked grant misses
 
 -- access by the hypothesis, whatever the ids stand for
 abbrev pub IsGranted : TableView → TableView → List Hypothesis → ℕ → Asked → Grant → Option ℕ → Type 0

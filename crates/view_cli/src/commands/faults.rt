@@ -3,7 +3,6 @@
 
 ghost use Rattle.std.specs.Prelude.{◌≡◌, ◌≤◌, length, IfOk};
 ghost use Rattle.asm_text.specs.declared.limits.TheConstants.{MAX_SOURCE};
-ghost use Rattle.proof_container.specs.Versions.{IsVersion, IsBoundOf};
 ghost use Rattle.pcc_words.specs.Commands.{IsVersionOf};
 ghost use Rattle.pcc_stages.specs.Stage.{gives};
 ghost use Rattle.pcc_stages.specs.Answers.{Gives, GivesPure};

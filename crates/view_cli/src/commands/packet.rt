@@ -1,6 +1,6 @@
 //! `packet POLICY FILE PACKETS K [--steps N]`: shows the run on a packet step by step.
 
-ghost use Rattle.std.specs.Prelude.{◌≡◌, ◌≤◌, length, slice_get, option_map, IfSome, IfOk};
+ghost use Rattle.std.specs.Prelude.{◌≡◌, ◌≤◌, length, slice_get, option_map, IfSome};
 ghost use Rattle.packet_store.specs.declared.reader.TheConstants.{MAX_PACKET};
 ghost use Rattle.pcc_words.specs.Commands.{word_view};
 ghost use Rattle.pcc_stages.specs.Stage.{gives};

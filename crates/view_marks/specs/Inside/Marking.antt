@@ -1,5 +1,5 @@
 -- The marks that are pushed for rows of goals.
-use Rattle.std.specs.Prelude.{◌≡◌, ℕ, suc, Bool, true, false, List, [], ◌∷◌, ◌++◌, map, replicate}
+use Rattle.std.specs.Prelude.{◌≡◌, ℕ, suc, Bool, true, false, List, [], ◌++◌, map, replicate}
 use Rattle.term_table.specs.Table.{TableView, tree_at}
 use Rattle.formula_tree.specs.Formulas.{Form, FAnd, FImp, FAll, FAllm, shift_form}
 use Rattle.lf_terms.specs.Encoding.{form_encoding}

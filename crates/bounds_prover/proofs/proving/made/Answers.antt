@@ -1,6 +1,7 @@
 use Rattle.std.proofs.Common.{Err, sym, ◌∙◌, ap, subst}
 use Rattle.proof_container.specs.Views.{contents_of}
 use Rattle.pcc_gate.specs.Answers.{IsLemmaFrontAnswer}
+use Rattle.pcc_gate.specs.Passing.{PassesUntyped}
 use Rattle.bounds_prover.specs.declared.fault.ProveFlaw.TheVariants.{Refused}
 use Rattle.bounds_prover.specs.Proving.{IsMadeAnswer}
 use Rattle.bounds_prover.proofs.Making.{contents-made, refused-made}
@@ -19,7 +20,7 @@ pub returns-in-Ok-clause-exact : goal.returns-in-Ok-clause-exact
 returns-in-Ok-clause-exact c =
     let p = c.in-Ok.passed in
     let passes = c.in-Ok.ensures.exact in
-    subst (λ m. IsMadeAnswer m c.proved.result)
+    subst (λ m. IsMadeAnswer (PassesUntyped c.args.policy.now c.args.bytes.now) m c.proved.result)
     (sym (contents-made c.args.policy.now c.args.bytes.now (contents_of p.container) p.cut.code
     p.cut.marks passes.0 passes.2))
     c.proved.ensures.made

@@ -19,8 +19,8 @@ use Rattle.pcc_gate.proofs.Refusing.{keys}
 use Rattle.pcc_gate.proofs.Stages.{low-invs}
 use Rattle.prover_class.specs.Parts.{condition_proof, first_not_easy}
 use Rattle.prover_conditions.specs.Conditions.{condition_parts, IsKnownAnswer, IsPartsAnswer}
-use Rattle.bounds_prover.specs.Proving.{excess, encoded_unless, IsMadeAnswer}
-use Rattle.bounds_prover.proofs.Making.{same_roots, made-contents, not_easy-made, proof-made}
+use Rattle.bounds_prover.specs.Proving.{excess, encoded_unless, proved_contents, IsMadeAnswer}
+use Rattle.bounds_prover.proofs.Making.{same_roots, made-contents, not_easy-made, proof-made, made-written, passes-untyped}
 use Rattle.bounds_prover.proofs.proving.proved.Goals as goal
 
 pub prove_condition-requires-clause-invs : goal.prove_condition-requires-clause-invs
@@ -48,6 +48,9 @@ returns-in-NotEasy-clause-made c =
     let parts = λ (l : List (ℕ × ℕ)). condition_parts c.args.policy.now k.bound c.args.passed.cut.code (id_trees k.table l) in
     let answer = subst (IsPartsAnswer c.prove_condition.new.table (is_some k.bound) 0 (parts c.deref.result.now)) c.in-NotEasy.is c.in-Ok.ensures.exact in
     not_easy-made (contents_of k) (parts k.invs.items) c.in-NotEasy.part (subst (λ l. first_not_easy (is_some k.bound) 0 (parts l) ≡ Some c.in-NotEasy.part) c.deref.ensures.value answer)
+
+pub returns-in-Err-Results-clause-made : goal.returns-in-Err-Results-clause-made
+returns-in-Err-Results-clause-made c = passes-untyped c.requires.passes
 
 pub written-requires-clause-roots : goal.written-requires-clause-roots
 written-requires-clause-roots c =
@@ -102,4 +105,6 @@ returns-clause-made c =
     let same = same_roots (contents_of k) (id_trees u c.deref-in-Proved.result.now)
     (lemmas_in u c.deref-in-Proved-2.result.now) p invs lemmas in
     let none = (c.class_laws.ensures.exact (is_some k.bound) (parts ps) 0).1 (p, given) in
-    subst (λ m. IsMadeAnswer m c.written.result) (sym (proof-made (contents_of k) (parts ps) p none given)) (subst (λ d. IsMadeAnswer (encoded_unless (excess d p) d) c.written.result) same c.written.ensures.made)
+    let made = subst (λ d. IsMadeAnswer ⊥ (encoded_unless (excess d p) d) c.written.result) same c.written.ensures.made in
+    made-written (proved_contents (contents_of k) (parts ps)) c.written.result
+    (subst (λ m. IsMadeAnswer ⊥ m c.written.result) (sym (proof-made (contents_of k) (parts ps) p none given)) made)

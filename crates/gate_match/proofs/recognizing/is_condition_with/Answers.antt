@@ -11,6 +11,7 @@ use Rattle.vcgen.specs.WalkTree.{condition_term}
 use Rattle.vcgen.proofs.WalkTrees.{condition_term-is}
 use Rattle.vcgen.proofs.Encodings.{encoding-exists, encoding-unique}
 use Rattle.vcgen.proofs.Parts.{invs-inside}
+use Rattle.gate_match.proofs.Spending.{fault-spent}
 use Rattle.gate_match.proofs.recognizing.is_condition_with.Goals as goal
 
 pub is_encoded_condition-requires-clause-inside : goal.is_encoded_condition-requires-clause-inside
@@ -43,3 +44,9 @@ returns-clause-exact c =
             (encoding-unique policy bound code invs formula whole e one),
       ),
     )
+
+pub returns-in_err-equal-clause-spends : goal.returns-in_err-equal-clause-spends
+returns-in_err-equal-clause-spends c =
+    fault-spent c.is_encoded_condition.new.table c.args.memo.now c.is_encoded_condition.new.memo
+    c.in_err-equal.field-0.0 c.in_err-equal.ensures.spends c.from_residual.result
+    c.from_residual.ensures.1

@@ -1,4 +1,5 @@
-use Rattle.std.proofs.Common.{◌≡◌, ◌≤◌, length, None, Err, refl, sym, ◌∙◌, subst, false≢true}
+use Rattle.std.proofs.Common.{◌≡◌, ◌≤◌, length, None, Err, refl, sym, ◌∙◌, subst}
+use Rattle.std.proofs.lemmas.Bool.{false≢true}
 use Rattle.term_table.specs.Table.{Extends}
 use Rattle.lf_signature.specs.declared.WordSignature.{WordSignature}
 use Rattle.lf_signature.specs.Constants.{declared}

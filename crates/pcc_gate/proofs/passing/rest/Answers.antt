@@ -1,18 +1,20 @@
-use Rattle.std.proofs.Common.{◌≡◌, ◌<◌, ◌/◌, ℕ, All, List, Ok, length, map, sym, ◌∙◌, ap, subst, slice_index_or, arith, false≢true}
+use Rattle.std.proofs.Common.{◌≡◌, ◌<◌, ◌/◌, ℕ, All, List, None, Ok, length, map, sym, ◌∙◌, ap, subst, slice_index_or, arith}
+use Rattle.std.proofs.lemmas.Bool.{false≢true}
 use Rattle.std.specs.List.Sorted.{IsStrictlyIncreasing}
 use Rattle.alpha_cfg.specs.CodeBytes.{EncodesCode}
 use Rattle.alpha_cfg.specs.Flow.{IsCode}
 use Rattle.term_table.specs.Table.{Extends, id_trees}
 use Rattle.lf_lemmas.specs.Laws.Lawful.{lemmas_stay, lemmas_known}
-use Rattle.proof_container.specs.Contents.{Contents}
+use Rattle.proof_container.specs.Contents.{Contents, roots}
 use Rattle.proof_container.specs.Views.{contents_of}
 use Rattle.proof_container.specs.Versions.{profile_of, signature_of}
 use Rattle.pcc_gate.specs.Inside.Stages.{Refuses, with_roots, IsShaped}
-use Rattle.pcc_gate.specs.Inside.Passed.{IsRestAnswer}
-use Rattle.pcc_gate.specs.First.{first_code, first_shape}
+use Rattle.pcc_gate.specs.Inside.Passed.{IsRestAnswer, CountsUntyped}
+use Rattle.pcc_gate.specs.First.{first_code, first_shape, too_high}
 use Rattle.pcc_gate.proofs.FirstFront.{key_below, key_rises}
 use Rattle.pcc_gate.proofs.Kept.{known-more, option-more, trees-same, option-same, renamed}
 use Rattle.pcc_gate.proofs.Refusing.{carries, keys}
+use Rattle.pcc_gate.proofs.Searches.{none_low}
 use Rattle.pcc_gate.proofs.Stages.{code-refuses}
 use Rattle.pcc_gate.specs.declared.fault.GateFault.TheVariants as fault
 use Rattle.hereditary_subst.specs.Limits.{is_limited, NeedsLimit}
@@ -136,4 +138,30 @@ returns-in_err-insns-clause-limit c =
 pub returns-in_err-cut-clause-limit : goal.returns-in_err-cut-clause-limit
 returns-in_err-cut-clause-limit c =
     carries (NeedsLimit (is_limited c.args.kept.now.memo) fault.Results) c.in_err-cut.field-0.0 c.in_err-cut.ensures.limit
+    c.from_residual-in_err-cut.result c.from_residual-in_err-cut.ensures.1
+
+pub returns-in_err-insns-clause-typed : goal.returns-in_err-insns-clause-typed
+returns-in_err-insns-clause-typed c =
+    carries (CountsUntyped (contents_of c.args.container)) c.in_err-insns.field-0.0
+    (λ e. absurd (false≢true (c.in_err-insns.ensures.limit e)))
+    c.from_residual.result c.from_residual.ensures.1
+
+pub returns-in_err-cut-clause-typed : goal.returns-in_err-cut-clause-typed
+returns-in_err-cut-clause-typed c =
+    let k : Contents = contents_of c.args.container in
+    let t = c.args.container.table in
+    let insns = c.in_ok-insns.insns in
+    let bytes = c.args.container.code.now in
+    let low = λ (z : WordSignature) (l m : List (ℕ × ℕ)).
+    too_high (roots (with_roots t c.args.container.bound l m c.args.container.proof)) ≡ None in
+    carries (CountsUntyped k) c.in_err-cut.field-0.0
+    (λ e. record {
+      insns = insns;
+      encoded = subst (λ (p : Profile). EncodesCode p bytes insns)
+          c.profile_of-profile.ensures.exact c.in_ok-insns.ensures.answer.1;
+      code = c.in_ok-insns.ensures.answer.2;
+      heights = none_low (roots k)
+          (renamed low c.signature_of-signature.ensures.exact c.deref.ensures.value
+          c.deref-2.ensures.value (c.in_err-cut.ensures.typed e));
+    })
     c.from_residual-in_err-cut.result c.from_residual-in_err-cut.ensures.1

@@ -1,4 +1,5 @@
-use Rattle.std.proofs.Common.{◌≡◌, ◌≤◌, List, map, None, sym, ◌∙◌, ap, subst, false≢true}
+use Rattle.std.proofs.Common.{◌≡◌, ◌≤◌, List, map, None, sym, ◌∙◌, ap, subst}
+use Rattle.std.proofs.lemmas.Bool.{false≢true}
 use Rattle.alpha_cfg.specs.Cuts.{unfolded_of}
 use Rattle.alpha_cfg.specs.Deciding.{uncut_of}
 use Rattle.term_table.specs.Tree.{Tree}
@@ -6,7 +7,7 @@ use Rattle.lf_lemmas.specs.Laws.Lawful.{lemmas_stay, lemmas_known}
 use Rattle.proof_container.specs.Contents.{Contents, roots}
 use Rattle.vcgen.specs.declared.condition.TheConstants.{MAX_UNFOLDED}
 use Rattle.pcc_gate.specs.First.{marks_of, too_high, lemma_formless}
-use Rattle.pcc_gate.specs.Inside.Stages.{Refuses, with_roots, first_no_formula, first_uncut, IsMade, IsShapeAnswer}
+use Rattle.pcc_gate.specs.Inside.Stages.{Refuses, with_roots, first_no_formula, first_uncut, IsMade, IsShapeAnswer, CountsLow}
 use Rattle.pcc_gate.proofs.Refusing.{carries, height-none, keys, made-uncut, made-short, formulas-refuse, uncut-refuses, long-refuses}
 use Rattle.pcc_gate.specs.declared.fault.GateFault.TheVariants as fault
 use Rattle.hereditary_subst.specs.Limits.{is_limited, NeedsLimit}
@@ -125,4 +126,32 @@ returns-in_err-cut-clause-limit c =
 pub returns-in_err-short-clause-limit : goal.returns-in_err-short-clause-limit
 returns-in_err-short-clause-limit c =
     carries (NeedsLimit (is_limited c.args.kept.now.memo) fault.Results) c.in_err-short.field-0.0 (λ e. absurd (false≢true (c.in_err-short.ensures.limit e)))
+    c.from_residual-in_err-short.result c.from_residual-in_err-short.ensures.1
+
+pub returns-in_err-formed-clause-typed : goal.returns-in_err-formed-clause-typed
+returns-in_err-formed-clause-typed c =
+    let k : Contents = with_roots c.args.table.now c.args.bound c.args.invs.now c.args.lemmas.now c.args.proof in
+    carries (CountsLow k) c.in_err-formed.field-0.0
+    (λ e. height-none (too_high (roots k)) (sym c.first_too_high.ensures ∙ c.in_default.is))
+    c.from_residual.result c.from_residual.ensures.1
+
+pub returns-in_err-lemmas_formed-clause-typed : goal.returns-in_err-lemmas_formed-clause-typed
+returns-in_err-lemmas_formed-clause-typed c =
+    let k : Contents = with_roots c.args.table.now c.args.bound c.args.invs.now c.args.lemmas.now c.args.proof in
+    carries (CountsLow k) c.in_err-lemmas_formed.field-0.0
+    (λ e. height-none (too_high (roots k)) (sym c.first_too_high.ensures ∙ c.in_default.is))
+    c.from_residual-in_err-lemmas_formed.result c.from_residual-in_err-lemmas_formed.ensures.1
+
+pub returns-in_err-cut-clause-typed : goal.returns-in_err-cut-clause-typed
+returns-in_err-cut-clause-typed c =
+    let k : Contents = with_roots c.args.table.now c.args.bound c.args.invs.now c.args.lemmas.now c.args.proof in
+    carries (CountsLow k) c.in_err-cut.field-0.0
+    (λ e. height-none (too_high (roots k)) (sym c.first_too_high.ensures ∙ c.in_default.is))
+    c.from_residual-in_err-cut.result c.from_residual-in_err-cut.ensures.1
+
+pub returns-in_err-short-clause-typed : goal.returns-in_err-short-clause-typed
+returns-in_err-short-clause-typed c =
+    let k : Contents = with_roots c.args.table.now c.args.bound c.args.invs.now c.args.lemmas.now c.args.proof in
+    carries (CountsLow k) c.in_err-short.field-0.0
+    (λ e. height-none (too_high (roots k)) (sym c.first_too_high.ensures ∙ c.in_default.is))
     c.from_residual-in_err-short.result c.from_residual-in_err-short.ensures.1

@@ -1,4 +1,4 @@
-use Rattle.std.proofs.Common.{◌≡◌, Option, Some, None, sym, ◌∙◌, ap, subst}
+use Rattle.std.proofs.Common.{Option, Some, None, sym, ◌∙◌, ap, subst}
 use Rattle.prover_goals.proofs.Kept.{search-more}
 use Rattle.view_marks.specs.Halves.{conclusion_alone, half_by, half_with}
 use Rattle.view_marks.specs.Inside.Halves.{IsFormOption}

@@ -7,7 +7,7 @@ use mir.Syntax.{ty_ptr}
 use mir.Val.{Val, vstruct, vcons, vnil, has_ty, WT}
 use Rattle.std.proofs.BoxSteps.Form.{P, owning, box_ty}
 use base.Logic.{SProp, ent, emp, id⊢}
-use base.Fml.{ftrue, fsep}
+use base.Fml.{ftrue}
 use prog.Memory.{Memory}
 use prog.Routine.{Routine}
 use prog.Wp.{WpFn, Tables}
@@ -15,14 +15,14 @@ use types.Logic.{Logic}
 use contract.Monad.{Fun}
 use contract.Running.{tables, tables_of}
 use sound.WpLaws.{WpFn-mono}
-use types.Kit.{Item, ‵, raw, ◌⊛◌, ◌$◌, ◌∵◌, !, qed, by, move, drop, use1, join, split, fsplit, fjoin, fpack, feq_i, feq_l, suffices, done}
+use types.Kit.{Item, ‵, raw, ◌⊛◌, ◌$◌, ◌∵◌, !, qed, by, move, drop, use1, join, split, fsplit, fjoin, fpack, feq_i, suffices, done}
 use types.Part.{agg}
 use types.Run.{lit, no_more, and_then, returns, enter}
 use types.ByLocal.{alloc_all, pass_all, free_all, look_at, get, sets}
 use denote.Exit.{yes}
-use denote.RattleType.{RattleType, Valss, owns}
+use denote.RattleType.{Valss, owns}
 use denote.RawPtr.{RawPtr, null_ptr, ptr_val}
-use denote.Signature.{plain, type_at, types_at}
+use denote.Signature.{plain, type_at}
 use denote.Steps.{nothing}
 use denote.Struct.Struct.{within}
 use denote.Struct.Owning.{shape}

@@ -1,6 +1,5 @@
-use Rattle.std.proofs.Common.{◌≡◌, ◌∙◌, Ok, Err, option_map, sym, ap}
+use Rattle.std.proofs.Common.{option_map, sym, ap}
 use Rattle.proof_container.specs.Decoding.{decoded_container}
-use Rattle.pcc_stages.proofs.StageLemmas.{lifted}
 use Rattle.view_cli.specs.Commands.Goals.{beside_read}
 use Rattle.view_cli.specs.Commands.List.{source_beside}
 use Rattle.view_cli.specs.Inside.Founds.{beside_source}

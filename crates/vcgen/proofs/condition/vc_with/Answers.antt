@@ -10,7 +10,7 @@ use Rattle.vcgen.proofs.WalkTrees.{condition_term-is}
 use Rattle.vcgen.proofs.Encodings.{encoding-exists}
 use Rattle.lf_encode.proofs.MachineContext.{encoding-machine}
 use Rattle.vcgen.proofs.Parts.{invs-inside}
-use Rattle.vcgen.proofs.condition.vc_within.Goals as goal
+use Rattle.vcgen.proofs.condition.vc_with.Goals as goal
 
 pub encoded_condition-requires-clause-inside : goal.encoded_condition-requires-clause-inside
 encoded_condition-requires-clause-inside c k d lt =
