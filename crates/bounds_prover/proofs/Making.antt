@@ -256,12 +256,12 @@ module _ (c : Contents) (parts : List Form) where
           record { proof = p; given = q; small = n.0; out_is = n.1 }
 
 -- what is written never waits for results
-pub made-written : {Begun : Type 0} (m : Result (List ℕ) ProveFlaw) (r : Result (Vec ℕ Global) ProveFault)
+pub made-written : (Begun : Type 0) (m : Result (List ℕ) ProveFlaw) (r : Result (Vec ℕ Global) ProveFault)
     → IsMadeAnswer ⊥ m r → IsMadeAnswer Begun m r
-made-written m (Ok out) h = h
-made-written m (Err (At flaw)) h = h
-made-written m (Err Memory) h = h
-made-written m (Err Results) h = absurd h
+made-written Begun m (Ok out) h = h
+made-written Begun m (Err (At flaw)) h = h
+made-written Begun m (Err Memory) h = h
+made-written Begun m (Err Results) h = absurd h
 
 -- ---- what is made of bytes
 

@@ -1,7 +1,7 @@
 -- Which rules a signature has.
-use Rattle.std.proofs.Common.{◌≡◌, ℕ, Bool, true, false, cond, Option, Some, None, is_some, List, refl, sym, ◌∙◌, ap, subst}
+use Rattle.std.proofs.Common.{◌≡◌, ℕ, cond, Option, Some, None, is_some, List, refl, sym, ◌∙◌, subst}
 use Rattle.term_table.specs.Tree.{Tree, Const, Num}
-use Rattle.term_table.specs.Table.{TableView, Stands, tree_at}
+use Rattle.term_table.specs.Table.{TableView}
 use Rattle.lf_signature.specs.Rules.{Rule, rule_type}
 use Rattle.lf_signature.specs.declared.WordSignature.TheVariants.{Sigma3}
 use Rattle.lf_signature.specs.Constants.{rule_at, declared}
@@ -13,34 +13,26 @@ use Rattle.lf_signature.specs.Terms.{pf}
 use Rattle.lf_signature.specs.Typing.{Checks, atom_checks, Synth}
 use Rattle.lf_sequents.specs.Answers.{HasForm, Derives, IsRowAnswer, IsRuleAnswer, rule_in_signature}
 
--- the type that a known signature gives a rule's number is the rule's
-pub has_rule : (sig : Const → Option Tree) → IsKnownSignature sig → (n : ℕ) (r : Rule) (a : Tree) → rule_at n ≡ Some r → sig (Num n) ≡ Some a → sig (Num n) ≡ Some (rule_type r)
-has_rule sig known n r a e h =
-    let d : declared Sigma3 (Num n) ≡ Some a = known-longest (Num n) a (λ l. l) (known.within (Num n) a h) in
-    h ∙ sym d ∙ declared-rule Sigma3 n r (declared-number Sigma3 n a d).0 e
-
--- and the rule is then one of the signature
-pub the_rule : (sig : Const → Option Tree) (n : ℕ) (r : Rule) (a : Tree) → rule_at n ≡ Some r → sig (Num n) ≡ Some a → rule_in_signature sig n ≡ Some r
-the_rule sig n r a e h = ap (λ o. cond (is_some o) (rule_at n) None) h ∙ e
+-- a rule of a known signature is its number's, and the signature gives that number the rule's type
+pub has_rule : (sig : Const → Option Tree) → IsKnownSignature sig → (n : ℕ) (r : Rule) → rule_in_signature sig n ≡ Some r
+    → (rule_at n ≡ Some r) × (sig (Num n) ≡ Some (rule_type r))
+has_rule sig known n r is = go (sig (Num n)) refl is
+  where
+    go : (o : Option Tree) → sig (Num n) ≡ o → cond (is_some o) (rule_at n) None ≡ Some r → (rule_at n ≡ Some r) × (sig (Num n) ≡ Some (rule_type r))
+    go None h e = cc
+    go (Some a) h e =
+        let d : declared Sigma3 (Num n) ≡ Some a = known-longest (Num n) a (λ l. l) (known.within (Num n) a h) in
+        (e, h ∙ sym d ∙ declared-rule Sigma3 n r (declared-number Sigma3 n a d).0 e)
 
 -- parameters or premises haven't the rule's form, or the conclusion's term doesn't check
-pub not_derived : (sig : Const → Option Tree) (t u : TableView) (hyps params : List ℕ) (n : ℕ) (r : Rule) (l : List Sequent) → rule_at n ≡ Some r
-    → (HasForm sig t hyps params r l → Derives sig t hyps params n r l → ⊥) → IsRuleAnswer n sig t u hyps params l None
-not_derived sig t u hyps params n r l e none = go (is_some (sig (Num n)))
-  where
-    go : (b : Bool) → IsRowAnswer sig t u hyps params n (cond b (rule_at n) None) l None
-    go true = subst (λ o. IsRowAnswer sig t u hyps params n o l None) (sym e) none
-    go false = refl
+pub not_derived : (sig : Const → Option Tree) (t u : TableView) (hyps params : List ℕ) (n : ℕ) (r : Rule) (l : List Sequent)
+    → rule_in_signature sig n ≡ Some r → (HasForm sig t hyps params r l → Derives sig t hyps params n r l → ⊥) → IsRuleAnswer n sig t u hyps params l None
+not_derived sig t u hyps params n r l e none = subst (λ o. IsRowAnswer sig t u hyps params n o l None) (sym e) none
 
-pub no_form : (sig : Const → Option Tree) (t u : TableView) (hyps params : List ℕ) (n : ℕ) (r : Rule) (l : List Sequent) → rule_at n ≡ Some r
-    → (HasForm sig t hyps params r l → ⊥) → IsRuleAnswer n sig t u hyps params l None
+pub no_form : (sig : Const → Option Tree) (t u : TableView) (hyps params : List ℕ) (n : ℕ) (r : Rule) (l : List Sequent)
+    → rule_in_signature sig n ≡ Some r → (HasForm sig t hyps params r l → ⊥) → IsRuleAnswer n sig t u hyps params l None
 no_form sig t u hyps params n r l e unfit = not_derived sig t u hyps params n r l e (λ form _. unfit form)
 
 -- what checks at a type of proofs synthesises it
 pub synthesised : {sig : Const → Option Tree} {ctx : List Tree} {p g : Tree} → Checks sig ctx p (pf g) → Synth sig ctx p (pf g)
 synthesised (atom_checks s a) = s
-
--- what a signature answers of a constant, where it answers a type
-pub stands_some : (u : TableView) (a : Option Tree) (sig : Const → Option Tree) (n : ℕ) → a ≡ sig (Num n) → (o : Option ℕ) → Stands u a o → is_some o ≡ true → (t : Tree) × (sig (Num n) ≡ Some t)
-stands_some u a sig n e None h k = cc
-stands_some u a sig n e (Some id) h k = (tree_at u id, sym e ∙ h.1)

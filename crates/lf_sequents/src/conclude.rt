@@ -1,6 +1,6 @@
 //! Builds the sequent of a rule's conclusion.
 
-ghost use Rattle.std.specs.Prelude.{◌≡◌, ◌↔◌, false, ◌≤◌, ◌<◌, ◌+◌, ◌^◌, IfOk, IsTrue, map, length};
+ghost use Rattle.std.specs.Prelude.{◌≡◌, ◌↔◌, false, ◌≤◌, ◌<◌, ◌+◌, ◌^◌, IfOk, IsTrue, map, option_map, length};
 ghost use Rattle.term_table.specs.Tree.{Tree, apps};
 ghost use Rattle.term_table.specs.Table.{IsKnown, AllKnown, tree_at, ctx_of, Extends};
 ghost use Rattle.lf_signature.specs.Schemas.{premise_of, rule_of};
@@ -11,7 +11,7 @@ ghost use Rattle.hereditary_subst.specs.Limits.{is_limited, limit_of};
 ghost use Rattle.lf_check.specs.Kept.{AreKept};
 ghost use Rattle.lf_terms.specs.Instance.{trees_of, by_rule};
 ghost use Rattle.lf_sequents.specs.Sequents.{AreOfTable, AreSequents};
-ghost use Rattle.lf_sequents.specs.Answers.{proof_taken, proofs_taken, IsRuleAnswer};
+ghost use Rattle.lf_sequents.specs.Answers.{proof_taken, proofs_taken, rule_in_signature, IsRuleAnswer};
 ghost use Rattle.lf_sequents.specs.Room.{sequents_of, terms_of, AreShallow, HasVarRoom};
 
 use crate::instance::form_id;
@@ -189,6 +189,23 @@ fn is_proof<S: Signature>(
     }
 }
 
+/// The rule of this number, if the signature has it.
+fn rule_in_signature<S: Signature>(
+    table: &mut Table,
+    sig: &S,
+    number: u32,
+) -> Result<Option<&'static Rule>, AllocError>
+    requires { S.holds sig.now table.old }
+    ensures rule { let rule = rule_in_signature (S.declares sig.now table.old) number in
+        IfOk result (λ o. option_map (λ r. rule_of r.now) o ≡ rule) }
+    ensures extends { Extends table.old table.new }
+{
+    if declared(table, sig, Node::Const(number))?.is_none() {
+        return Ok(None);
+    }
+    Ok(rule_at(number))
+}
+
 /// The answer of `by_rule`, with cached results that have no limit. If a variable might reach 2^32,
 /// the term is checked: first whether it has a type, before any formula is made.
 fn conclude_rule<S: Known>(
@@ -214,13 +231,10 @@ fn conclude_rule<S: Known>(
     ensures extends { Extends table.old table.new }
     ensures kept { AreKept (S.Signature.declares sig.now table.new) table.new kept.new }
 {
-    let Some(rule) = rule_at(number) else {
+    let room = has_room(table, hyps, params, premises);
+    let Some(rule) = rule_in_signature(table, sig, number)? else {
         return Ok(None);
     };
-    let room = has_room(table, hyps, params, premises);
-    if declared(table, sig, Node::Const(number))?.is_none() {
-        return Ok(None);
-    }
     let term = conclusion_term(table, number, rule, params, premises)?;
     if !may_have_type(table, kept, sig, hyps, term, room)? {
         return Ok(None);
@@ -232,8 +246,11 @@ fn conclude_rule<S: Known>(
     if !is_proof(table, kept, sig, hyps, term, goal, room)? {
         return Ok(None);
     }
-    let hyps = hyps.to_vec(alloc)?;
-    Ok(Some(Sequent { hyps, goal, term }))
+    Ok(Some(Sequent {
+        hyps: hyps.to_vec(alloc)?,
+        goal,
+        term,
+    }))
 }
 
 /// Returns the sequent of the conclusion of the rule with this number, at these parameters and

@@ -1,7 +1,8 @@
 //! The rules of equality, and of memories with a word written.
 //!
 //! Each function returns the sequent of its rule's conclusion exactly if the parameters and the
-//! premises have the rule's form, else None. Errors: out of memory alone; each id keeps its tree.
+//! premises have the rule's form and its term checks, else None. Errors: out of memory alone; each
+//! id keeps its tree.
 
 ghost use Rattle.std.specs.Prelude.{◌≡◌, [], ◌∷◌, IfOk};
 ghost use Rattle.term_table.specs.Table.{AllKnown, Extends};

@@ -1,8 +1,8 @@
 //! The rules that only the later signatures have.
 //!
 //! Each function returns the sequent of its rule's conclusion exactly if the signature has the
-//! rule, and the parameters and the premises have its form, else None. Errors: out of memory alone;
-//! each id keeps its tree.
+//! rule, the parameters and the premises have its form, and its term checks, else None. Errors: out
+//! of memory alone; each id keeps its tree.
 
 ghost use Rattle.std.specs.Prelude.{◌≡◌, [], ◌∷◌, IfOk};
 ghost use Rattle.term_table.specs.Table.{AllKnown, Extends};

@@ -14,6 +14,7 @@ use Rattle.lf_signature.specs.declared.WordSignature.TheVariants.{Sigma3}
 use Rattle.proof_container.specs.Versions.{signature_of}
 use Rattle.lf_lemmas.specs.Tables.{lemmas_in, LemmasKnown}
 use Rattle.lf_lemmas.specs.Laws.Lawful.{lemmas_stay, lemmas_known}
+use Rattle.pcc_gate.specs.Passing.{PassesUntyped}
 use Rattle.pcc_gate.proofs.Kept.{known-more, trees-same}
 use Rattle.pcc_gate.proofs.Refusing.{keys}
 use Rattle.pcc_gate.proofs.Stages.{low-invs}
@@ -106,5 +107,5 @@ returns-clause-made c =
     (lemmas_in u c.deref-in-Proved-2.result.now) p invs lemmas in
     let none = (c.class_laws.ensures.exact (is_some k.bound) (parts ps) 0).1 (p, given) in
     let made = subst (λ d. IsMadeAnswer ⊥ (encoded_unless (excess d p) d) c.written.result) same c.written.ensures.made in
-    made-written (proved_contents (contents_of k) (parts ps)) c.written.result
+    made-written (PassesUntyped c.args.policy.now c.args.bytes.now) (proved_contents (contents_of k) (parts ps)) c.written.result
     (subst (λ m. IsMadeAnswer ⊥ m c.written.result) (sym (proof-made (contents_of k) (parts ps) p none given)) made)

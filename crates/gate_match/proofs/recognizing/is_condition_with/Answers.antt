@@ -47,6 +47,6 @@ returns-clause-exact c =
 
 pub returns-in_err-equal-clause-spends : goal.returns-in_err-equal-clause-spends
 returns-in_err-equal-clause-spends c =
-    fault-spent c.is_encoded_condition.new.table c.args.memo.now c.is_encoded_condition.new.memo
+    fault-spent c.is_encoded_condition.new.table c.args.memo.now c.is_encoded_condition.new.shifts
     c.in_err-equal.field-0.0 c.in_err-equal.ensures.spends c.from_residual.result
     c.from_residual.ensures.1

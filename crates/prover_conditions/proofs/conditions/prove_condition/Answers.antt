@@ -1,4 +1,4 @@
-use Rattle.std.proofs.Common.{Bool, length, is_some, sym, subst}
+use Rattle.std.proofs.Common.{Bool, length, sym, subst}
 use Rattle.alpha_cfg.specs.Cuts.{AreFlags}
 use Rattle.term_table.specs.Table.{id_trees}
 use Rattle.lf_signature.specs.declared.WordSignature.TheVariants.{Sigma1, Sigma2}
