@@ -85,7 +85,7 @@ use Rattle.pcc_commands.proofs.RunLemmas.{code_given, accepted_code_of_bytes}
 use Rattle.pcc_cli.proofs.CheckLemmas.{ReadsPolicies, checks_from}
 use Rattle.pcc_cli.proofs.CompileLemmas.{ReadsPrograms, CompilesPrograms, compiles, told}
 use Rattle.pcc_cli.proofs.TaskLemmas.{code_in-ends, assembled_in-ends, proved_in-ends, upgraded_in-ends, compiled_in-ends, demo_ends}
-use Rattle.pcc_cli.proofs.EndLemmas.{GateLaws, Ended, change_at, checks, end_at, ended_at_once, ended_of, ended_once, first_read, given_bytes}
+use Rattle.pcc_cli.proofs.EndLemmas.{GateLaws, Ended, change_at, checks, end_at, ended_at_once, ended_once, first_read, given_bytes}
 use Rattle.pcc_cli.proofs.EndLemmas.{second_bytes, no_read, read_once, shape, stopped_there, verdict, went_on-silent}
 use Rattle.pcc_cli.proofs.HostLemmas.{ReadsScripts, hosts}
 

@@ -1,6 +1,6 @@
 -- From the clauses of the commands to what a run of any command means: where memory ran out, the reads are those that the
 -- command's definition asks for.
-use Rattle.std.proofs.Common.{◌≡◌, ℕ, suc, ◌⊎◌, inl, inr, Bool, true, false, true≢false, List, [], ◌∷◌, ◌++◌, Option, Some, None, Result, Ok, Err}
+use Rattle.std.proofs.Common.{◌≡◌, ℕ, suc, Bool, true, false, true≢false, List, [], ◌∷◌, ◌++◌, Option, Some, None, Result, Ok, Err}
 use Rattle.std.proofs.Common.{refl, sym, ap, ◌∙◌, subst}
 use Rattle.std.proofs.lemmas.List.{append-nil}
 use Rattle.file_port.specs.Events.{Given, whole, Event, was_read, was_written, was_put}
@@ -14,7 +14,7 @@ use Rattle.policy_set.specs.Names.{policy_of}
 use Rattle.term_table.specs.Bytes.{IsBytes}
 use Rattle.agent_script.specs.declared.script.TheConstants.{MAX_SCRIPT}
 use Rattle.agent_script.specs.Statements.{LoadView}
-use Rattle.agent_script.specs.Scripts.{ScriptView, parsed_script}
+use Rattle.agent_script.specs.Scripts.{ScriptView}
 use Rattle.agent_script.specs.Texts.{SpellsScript}
 use Rattle.pcc_gate.specs.Accepted.{IsAccepted}
 use Rattle.pcc_gate.specs.First.{first_refusal}
@@ -23,7 +23,7 @@ use Rattle.pcc_lines.specs.Fixed.{accepted_line, bpf_too_long_line, container_to
 use Rattle.pcc_lines.specs.Fixed.{script_too_long_line, source_too_long_line}
 use Rattle.pcc_stages.specs.Exits.{Exit}
 use Rattle.pcc_stages.specs.Runs.{Effect, NoneFailed}
-use Rattle.pcc_stages.specs.Stage.{Stage, stops, gives, reads, ◌>>=◌, went_on, Follows}
+use Rattle.pcc_stages.specs.Stage.{Stage, gives, reads, ◌>>=◌, went_on, Follows}
 use Rattle.pcc_stages.specs.Stages.Common.{refused, policy_found, printing}
 use Rattle.packet_store.specs.Results.{packet_result}
 use Rattle.pcc_lines.specs.Results.{result_lines}

@@ -1,6 +1,6 @@
 //! The whole program, over any files and any output.
 
-ghost use Rattle.std.specs.Prelude.{◌≡◌, ℕ, List, map, string_bytes};
+ghost use Rattle.std.specs.Prelude.{ℕ, List, map, string_bytes};
 ghost use Rattle.file_port.specs.Events.{Event};
 ghost use Rattle.file_port.specs.Files.{FilesState};
 ghost use Rattle.file_port.specs.Sink.{SinkState};
