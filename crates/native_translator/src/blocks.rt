@@ -1,6 +1,6 @@
 //! The block of each index.
 
-ghost use Rattle.std.specs.Prelude.{◌≡◌, ◌++◌, ◌<◌, ◌≤◌, length, slice_get, OnOk, IfOk};
+ghost use Rattle.std.specs.Prelude.{◌≡◌, ◌++◌, ◌<◌, ◌≤◌, length, slice_get, OnOk, IfOk, pos};
 ghost use Rattle.native_code.specs.Blocks as blocks;
 ghost use Rattle.native_translator.specs.Inside.Parts as parts;
 
@@ -25,7 +25,7 @@ fn push_plain(out: &mut Vec<NativeInsn>, insns: &[X86Insn]) -> Result<(), AllocE
 
 /// Returns the instruction that takes a unit of fuel. It leaves the carry if there was none.
 fn take_fuel() -> X86Insn
-    ensures { result ≡ X86Insn.AluImm AluOp.Sub 8 1 }
+    ensures { result ≡ X86Insn.AluImm AluOp.Sub 8 (pos 1) }
 {
     X86Insn::AluImm {
         op: AluOp::Sub,

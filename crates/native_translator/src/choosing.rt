@@ -19,6 +19,7 @@ fn assign_register(places: &mut Places, r: Reg, saved: bool) -> bool
     ensures placed { result ≡ true → IsSomewhere places.new r }
     ensures kept { KeepsPlaces places.old places.new }
 {
+    places.laws();
     for number in 0..16 {
         let to = X86Reg::new(number);
         if is_callee_saved(to) == saved && places.assign(r, to) {
@@ -41,6 +42,7 @@ fn assign(places: &mut Places, r: Reg)
     if assign_register(places, r, true) {
         return;
     }
+    places.laws();
     places.assign_slot(r);
 }
 

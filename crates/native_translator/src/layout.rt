@@ -37,12 +37,13 @@ impl Plan {
         ensures { IfOk result (λ l. AreBlocks self.now.places self.now.metered code.now
             l.insns.items l.starts.items) }
     {
+        let count = code.count();
         layout_laws();
         self.places.laws();
         let mut insns = self.entry(alloc)?;
         let mut starts = Vec::new(alloc);
         let mut at = total(&insns);
-        for i in 0..code.count() + 1 {
+        for i in 0..count + 1 {
             starts.push(at)?;
             let block = self.block(alloc, code, i)?;
             at += total(&block);
