@@ -7,25 +7,29 @@ use Rattle.std.specs.List.{flat_map}
 use Rattle.std.specs.Int.{to_le_bytes, w16, w32, w64}
 use Rattle.native_object.specs.declared.sections.Section.{Section}
 
--- numbers of two, four and eight bytes, little-endian (ELFDATA2LSB)
-abbrev pub halves : List ℕ → List ℕ
-halves l = flat_map (to_le_bytes w16) l
+-- numbers of two bytes each, little-endian (ELFDATA2LSB)
+abbrev pub half_bytes : List ℕ → List ℕ
+half_bytes l = flat_map (to_le_bytes w16) l
 
-abbrev pub words : List ℕ → List ℕ
-words l = flat_map (to_le_bytes w32) l
+-- numbers of four bytes each
+abbrev pub word_bytes : List ℕ → List ℕ
+word_bytes l = flat_map (to_le_bytes w32) l
 
-abbrev pub xwords : List ℕ → List ℕ
-xwords l = flat_map (to_le_bytes w64) l
+-- numbers of eight bytes each
+abbrev pub xword_bytes : List ℕ → List ℕ
+xword_bytes l = flat_map (to_le_bytes w64) l
 
 -- ---- the parts, in the file's order
 
--- Section headers stand after the ELF header, symbols after them, then the text, at a multiple of 32, and names at the end.
+-- section headers stand after the ELF header
 abbrev pub SECTIONS_AT : ℕ
 SECTIONS_AT = 64
 
+-- then symbols
 abbrev pub SYMBOLS_AT : ℕ
 SYMBOLS_AT = 384
 
+-- then the text, at a multiple of 32; names stand at the end
 abbrev pub TEXT_AT : ℕ
 TEXT_AT = 448
 
@@ -37,13 +41,13 @@ ident = 0x7F ∷ codes "ELF" ++ (2 ∷ 1 ∷ 1 ∷ replicate 9 0)
 -- e_ehsize, e_phentsize, e_phnum, e_shentsize, e_shnum, e_shstrndx.
 abbrev pub elf_header : List ℕ
 elf_header =
-    ident ++ (halves (1 ∷ 62 ∷ []) ++ (words (1 ∷ []) ++ (xwords (0 ∷ 0 ∷ SECTIONS_AT ∷ []) ++ (words (0 ∷ [])
-    ++ halves (64 ∷ 0 ∷ 0 ∷ 64 ∷ 5 ∷ 4 ∷ [])))))
+    ident ++ (half_bytes (1 ∷ 62 ∷ []) ++ (word_bytes (1 ∷ []) ++ (xword_bytes (0 ∷ 0 ∷ SECTIONS_AT ∷ []) ++ (word_bytes (0 ∷ [])
+    ++ half_bytes (64 ∷ 0 ∷ 0 ∷ 64 ∷ 5 ∷ 4 ∷ [])))))
 
 -- A section header: sh_name, sh_type; sh_flags, sh_addr, sh_offset, sh_size; sh_link, sh_info; sh_addralign, sh_entsize.
 abbrev pub section_bytes : Section → List ℕ
 section_bytes s =
-    words (s.name ∷ s.kind ∷ []) ++ (xwords (s.flags ∷ 0 ∷ s.offset ∷ s.size ∷ []) ++ (words (s.link ∷ s.info ∷ []) ++ xwords (s.align ∷ s.entry ∷ [])))
+    word_bytes (s.name ∷ s.kind ∷ []) ++ (xword_bytes (s.flags ∷ 0 ∷ s.offset ∷ s.size ∷ []) ++ (word_bytes (s.link ∷ s.info ∷ []) ++ xword_bytes (s.align ∷ s.entry ∷ [])))
 
 -- names of sections, each with its end; they begin at 1, 7, 23 and 31, and the function's name at 39
 abbrev pub section_names : List ℕ
@@ -76,7 +80,7 @@ sections name text =
 
 -- Symbol 0, which is nothing, and the function: st_name; st_info (STB_GLOBAL and STT_FUNC), st_other (STV_DEFAULT); st_shndx, .text; st_value, st_size.
 abbrev pub symbols : ℕ → List ℕ
-symbols text = replicate 24 0 ++ (words (39 ∷ []) ++ (18 ∷ 0 ∷ halves (1 ∷ []) ++ xwords (0 ∷ text ∷ [])))
+symbols text = replicate 24 0 ++ (word_bytes (39 ∷ []) ++ (18 ∷ 0 ∷ half_bytes (1 ∷ []) ++ xword_bytes (0 ∷ text ∷ [])))
 
 -- what stands in front of the text, for the lengths of name and text
 abbrev pub front : ℕ → ℕ → List ℕ

@@ -7,7 +7,7 @@ use std::alloc::AllocError;
 
 /// Appends numbers of four bytes. Errors: out of memory.
 pub(crate) fn put_words(out: &mut Vec<u8>, words: &[u32]) -> Result<(), AllocError>
-    ensures { OnOk result (out.new.items ≡ out.old.items ++ objects.words words.now) }
+    ensures { OnOk result (out.new.items ≡ out.old.items ++ objects.word_bytes words.now) }
 {
     for word in words {
         out.extend_from_slice(&word.to_le_bytes())?;
@@ -17,7 +17,7 @@ pub(crate) fn put_words(out: &mut Vec<u8>, words: &[u32]) -> Result<(), AllocErr
 
 /// Appends numbers of eight bytes. Errors: out of memory.
 pub(crate) fn put_xwords(out: &mut Vec<u8>, words: &[u64]) -> Result<(), AllocError>
-    ensures { OnOk result (out.new.items ≡ out.old.items ++ objects.xwords words.now) }
+    ensures { OnOk result (out.new.items ≡ out.old.items ++ objects.xword_bytes words.now) }
 {
     for word in words {
         out.extend_from_slice(&word.to_le_bytes())?;

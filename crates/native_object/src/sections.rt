@@ -119,7 +119,18 @@ fn name_section(at: u64, size: u64) -> Section
     }
 }
 
-/// Appends all section headers, for the lengths of name and text. Errors: out of memory.
+/// Appends section headers. Errors: out of memory.
+fn put_all(out: &mut Vec<u8>, sections: &[Section]) -> Result<(), AllocError>
+    ensures { OnOk result (out.new.items
+        ≡ out.old.items ++ flat_map objects.section_bytes sections.now) }
+{
+    for section in sections {
+        section.put(out)?;
+    }
+    Ok(())
+}
+
+/// Appends the headers of all sections, for the lengths of name and text. Errors: out of memory.
 pub(crate) fn put_sections(out: &mut Vec<u8>, name: u64, text: u64) -> Result<(), AllocError>
     requires name { name < 2 ^ 32 }
     requires text { text < 2 ^ 32 }
@@ -134,8 +145,5 @@ pub(crate) fn put_sections(out: &mut Vec<u8>, name: u64, text: u64) -> Result<()
         symbol_section(),
         name_section(end, 40 + name),
     ];
-    for section in &all {
-        section.put(out)?;
-    }
-    Ok(())
+    put_all(out, &all)
 }

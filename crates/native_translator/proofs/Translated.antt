@@ -15,7 +15,7 @@ use Rattle.native_code.specs.Calls.{ArePlacesOf}
 use Rattle.native_code.proofs.Texts.{offset-next}
 use Rattle.native_translator.specs.Translation.{IsTranslation}
 use Rattle.native_translator.specs.Inside.Parts.{AreBlocks, FitsLayout}
-use Rattle.native_translator.proofs.Placing.{all-same}
+use Rattle.native_translator.proofs.Placing.{all-same, bytes-count}
 
 module _ (p : Places) (metered : Bool) (code : List Insn) where
   abbrev pub start : ℕ → ℕ
@@ -88,6 +88,13 @@ module _ (p : Places) (metered : Bool) (code : List Insn) where
         ];
         short = short;
       }
+
+  pub text-short : (insns : List NativeInsn) (starts bytes : List ℕ) → FitsLayout insns starts
+      → bytes ≡ flat_map bytes_of (placed_from (slice_index starts) 0 insns) → length bytes < 2 ^ 30
+  text-short insns starts bytes fits is =
+      let e = ap length is ∙ bytes-count (slice_index starts) insns in
+      let s = fits.short in
+      omega (arith, e, s)
 
   pub translated : (insns : List NativeInsn) (starts bytes : List ℕ) → IsCode code → ArePlacesOf p code → InnerTargets
       → AreBlocks p metered code insns starts → bytes ≡ flat_map bytes_of (placed_from (slice_index starts) 0 insns)

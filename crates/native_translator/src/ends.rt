@@ -134,7 +134,8 @@ impl Plan {
     /// saved. Errors: out of memory.
     fn push_enter(&self, out: &mut Vec<X86Insn>, r: Reg, from: X86Reg) -> Result<(), AllocError>
         requires { r < 31 }
-        ensures { OnOk result (out.new.items ≡ out.old.items ++ blocks.enter self.now.places r from) }
+        ensures { OnOk result (out.new.items
+            ≡ out.old.items ++ blocks.enter self.now.places r from) }
     {
         push_save(out, self.places.place(r), r)?;
         self.places.keep(out, r, from)?;

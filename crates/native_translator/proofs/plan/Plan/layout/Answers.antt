@@ -6,21 +6,21 @@ use Rattle.native_translator.proofs.plan.Plan.layout.Goals as goal
 pub total-at-requires : goal.total-at-requires
 total-at-requires c =
     subst (λ l. code_length l < 2 ^ 30) (sym (c.deref.ensures.value ∙ c.in_ok-insns.ensures))
-    (c.layout_laws.ensures.small c.args.self.now.places c.args.self.now.metered c.args.code.now c.count.ensures.code c.laws.ensures 0 (omega arith))
+    (c.layout_laws.ensures.small c.args.self.now.places c.args.self.now.metered c.args.code.now c.count-count.ensures.code c.laws.ensures 0 (omega arith))
 
 pub total-at-requires-in-loop-i : goal.total-at-requires-in-loop-i
 total-at-requires-in-loop-i c =
-    let low : c.loop-i.i ≤ length c.args.code.now = omega (arith, c.loop-i-test.true, c.count.ensures.value) in
+    let low : c.loop-i.i ≤ length c.args.code.now = omega (arith, c.loop-i-test.true, c.count-count.ensures.value) in
     let small =
-    block-small c.args.self.now.places c.args.self.now.metered c.args.code.now c.loop-i.i c.deref-in-loop-i.result.now c.count.ensures.code
+    block-small c.args.self.now.places c.args.self.now.metered c.args.code.now c.loop-i.i c.deref-in-loop-i.result.now c.count-count.ensures.code
     c.laws.ensures c.layout_laws.ensures.small low (c.deref-in-loop-i.ensures.value ∙ c.in_ok-block.ensures) in
     omega (arith, small)
 
 pub overflow_add-at : goal.overflow_add-at
 overflow_add-at c =
-    let low : c.loop-i.i ≤ length c.args.code.now = omega (arith, c.loop-i-test.true, c.count.ensures.value) in
+    let low : c.loop-i.i ≤ length c.args.code.now = omega (arith, c.loop-i-test.true, c.count-count.ensures.value) in
     let small =
-    block-small c.args.self.now.places c.args.self.now.metered c.args.code.now c.loop-i.i c.deref-in-loop-i.result.now c.count.ensures.code
+    block-small c.args.self.now.places c.args.self.now.metered c.args.code.now c.loop-i.i c.deref-in-loop-i.result.now c.count-count.ensures.code
     c.laws.ensures c.layout_laws.ensures.small low (c.deref-in-loop-i.ensures.value ∙ c.in_ok-block.ensures) in
     omega (arith, small, c.loop-i.invariant.next, c.total-at-in-loop-i.ensures)
 
@@ -36,4 +36,4 @@ loop-i-preserved c =
 pub returns : goal.returns
 returns c =
     all-made c.args.self.now.places c.args.self.now.metered c.args.code.now c.loop-i.i c.loop-i.insns.items c.loop-i.starts.items c.loop-i.at
-    (omega (arith, c.loop-i-test.false, c.loop-i.auto.i-end, c.count.ensures.value)) c.loop-i.invariant
+    (omega (arith, c.loop-i-test.false, c.loop-i.auto.i-end, c.count-count.ensures.value)) c.loop-i.invariant
