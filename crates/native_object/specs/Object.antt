@@ -2,7 +2,7 @@
 -- System V Application Binary Interface, edition 4.1 and its 64-bit drafts, chapter 4, "Object Files": "ELF Header" (figures 4-3, 4-4 and those of
 -- e_ident), "Sections" (figures 4-8 to 4-12, "Special Sections"), "String Table", "Symbol Table" (figures 4-15 to 4-18). AMD64 Architecture Processor
 -- Supplement, section 4.1, "ELF Header": machine 62. `.note.GNU-stack`, a section of GNU's: the program wants no executable stack.
-use Rattle.std.specs.Prelude.{ℕ, ◌+◌, ◌*◌, List, [], ◌∷◌, ◌++◌, length, replicate, codes}
+use Rattle.std.specs.Prelude.{ℕ, ◌+◌, List, [], ◌∷◌, ◌++◌, length, replicate, codes}
 use Rattle.std.specs.List.{flat_map}
 use Rattle.std.specs.Int.{to_le_bytes, w16, w32, w64}
 use Rattle.native_object.specs.declared.sections.Section.{Section}

@@ -3,13 +3,9 @@ use Rattle.std.proofs.Common.{◌≡◌, ℕ, ◌<◌, ◌≤◌, Bool, List, []
 use Rattle.std.proofs.Common.{refl, sym, ap, ◌∙◌, append_assoc}
 use Rattle.std.proofs.lemmas.Option.{slice_get_past}
 use Rattle.alpha_words.specs.declared.insn.Insn.{Insn}
-use Rattle.alpha_cfg.specs.Actions.{action_of}
-use Rattle.alpha_cfg.specs.Flow.{jump_of}
-use Rattle.x86_words.specs.declared.insn.X86Insn.{X86Insn}
 use Rattle.native_steps.specs.Places.{Places}
-use Rattle.native_steps.specs.Sequences.{insn_code}
 use Rattle.native_code.specs.declared.insn.NativeInsn.{NativeInsn}
-use Rattle.native_code.specs.Blocks.{plain, end_code, fuel_code, block_at, spent_code}
+use Rattle.native_code.specs.Blocks.{plain, fuel_code, block_at, spent_code}
 use Rattle.native_translator.specs.Inside.Parts.{sequence_at, end_at}
 use Rattle.native_translator.proofs.Scanning.{missing}
 

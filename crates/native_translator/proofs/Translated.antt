@@ -10,7 +10,7 @@ use Rattle.x86_words.specs.Encoding.{bytes_of}
 use Rattle.native_steps.specs.Places.{Places, ArePlaces}
 use Rattle.native_code.specs.declared.insn.NativeInsn.{NativeInsn}
 use Rattle.native_code.specs.Blocks.{block_at, front_code, whole_code}
-use Rattle.native_code.specs.Layout.{code_length, placed_from, offset_of, native_text, LeadsBelow, SmallOffsets, InnerTargets}
+use Rattle.native_code.specs.Layout.{code_length, placed_from, offset_of, LeadsBelow, SmallOffsets, InnerTargets}
 use Rattle.native_code.specs.Calls.{ArePlacesOf}
 use Rattle.native_code.proofs.Texts.{offset-next}
 use Rattle.native_translator.specs.Translation.{IsTranslation}

@@ -1,4 +1,4 @@
-use Rattle.std.proofs.Common.{◌≡◌, ◌+◌, sym, ap, ◌∙◌, arith}
+use Rattle.std.proofs.Common.{arith}
 use Rattle.native_translator.proofs.Placing.{length-taken, length-within}
 use Rattle.native_translator.proofs.layout.total.Goals as goal
 

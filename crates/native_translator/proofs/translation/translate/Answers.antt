@@ -1,4 +1,3 @@
-use Rattle.native_translator.specs.Inside.Parts.{FitsLayout}
 use Rattle.native_translator.proofs.Translated.{blocks-fit, text-short, translated}
 use Rattle.native_translator.proofs.translation.translate.Goals as goal
 

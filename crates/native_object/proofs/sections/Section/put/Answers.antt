@@ -1,4 +1,4 @@
-use Rattle.std.proofs.Common.{ℕ, [], ◌∷◌}
+use Rattle.std.proofs.Common.{[], ◌∷◌}
 use Rattle.native_object.specs.Object.{word_bytes, xword_bytes}
 use Rattle.native_object.proofs.Appending.{four-parts}
 use Rattle.native_object.proofs.sections.Section.put.Goals as goal

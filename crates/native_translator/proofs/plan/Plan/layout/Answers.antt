@@ -1,6 +1,6 @@
-use Rattle.std.proofs.Common.{◌≡◌, ◌≤◌, ◌<◌, ◌^◌, ℕ, suc, ◌+◌, ◌++◌, ◌∷◌, [], length, sym, ap, ◌∙◌, subst, arith}
+use Rattle.std.proofs.Common.{◌≡◌, ◌≤◌, ◌<◌, ◌^◌, ◌+◌, ◌++◌, length, sym, ap, ◌∙◌, subst, arith}
 use Rattle.native_code.specs.Layout.{code_length}
-use Rattle.native_translator.proofs.Translated.{AreFirst, first-more, all-made, block-small, start}
+use Rattle.native_translator.proofs.Translated.{first-more, all-made, block-small}
 use Rattle.native_translator.proofs.plan.Plan.layout.Goals as goal
 
 pub total-at-requires : goal.total-at-requires
