@@ -2,7 +2,7 @@
 //!
 //! `object` returns exactly the bytes that `specs/Object` defines: `.text`, aligned to 32, has the
 //! function; a symbol table names it; `.note.GNU-stack` asks for no executable stack. There are no
-//! relocations.
+//! relocations. `laws` says that each part stands where the headers say.
 //!
 //! Sources: System V Application Binary Interface, chapter 4, "Object Files"; its AMD64 Architecture
 //! Processor Supplement, section 4.1.
@@ -11,6 +11,8 @@
 mod fields;
 mod file;
 mod sections;
+mod theorems;
 
 pub use file::object;
 pub use sections::Section;
+pub use theorems::laws;
