@@ -12,14 +12,14 @@ pub record StandsAsSaid (name text : List ℕ) : Type 0 where
   pub name_size : length (names name) ≡ (name_section (TEXT_AT + length text) (40 + length name)).size
 
 -- The name at an offset of the string table: it ends before the next 0.
-pub record IsNamed (table name : List ℕ) (at : ℕ) : Type 0 where
+pub record HasNameAt (table name : List ℕ) (at : ℕ) : Type 0 where
   pub after : List ℕ
   pub begins : drop at table ≡ name ++ 0 ∷ after
 
 -- The names of the sections and of the function stand where the headers and the symbol say.
 pub record NamesStand (name : List ℕ) : Type 0 where
-  pub text : IsNamed (names name) (codes ".text") 1
-  pub stack : IsNamed (names name) (codes ".note.GNU-stack") 7
-  pub symbols : IsNamed (names name) (codes ".symtab") 23
-  pub strings : IsNamed (names name) (codes ".strtab") 31
-  pub function : IsNamed (names name) name 39
+  pub text : HasNameAt (names name) (codes ".text") 1
+  pub stack : HasNameAt (names name) (codes ".note.GNU-stack") 7
+  pub symbols : HasNameAt (names name) (codes ".symtab") 23
+  pub strings : HasNameAt (names name) (codes ".strtab") 31
+  pub function : HasNameAt (names name) name 39
