@@ -6,6 +6,7 @@ pub mod Leaving
 pub mod Entering
 pub mod Called
 pub mod Fitting
+pub mod Leading
 pub mod Stepping
 pub mod Following
 pub mod Ending

@@ -1,11 +1,12 @@
 -- Where blocks begin, how far jumps lead, and the bytes of native code.
-use Rattle.std.specs.Prelude.{ℕ, ◌+◌, Bool, List, [], ◌∷◌, ℤ, pos, ◌-ℤ◌}
-use Rattle.std.specs.List.{flat_map}
+use Rattle.std.specs.Prelude.{ℕ, suc, ◌+◌, ◌^◌, ◌<◌, ◌≤◌, Bool, List, [], ◌∷◌, length, ℤ, pos, ◌-ℤ◌}
+use Rattle.std.specs.List.{All, flat_map}
 use Rattle.alpha_words.specs.declared.insn.Insn.{Insn}
+use Rattle.alpha_cfg.specs.Flow.{IsCode}
 use Rattle.x86_words.specs.declared.insn.X86Insn.{X86Insn}
 use Rattle.x86_words.specs.declared.insn.X86Insn.TheVariants.{Jump, JumpIf}
 use Rattle.x86_words.specs.Encoding.{bytes_of, length_of}
-use Rattle.native_steps.specs.Places.{Places}
+use Rattle.native_steps.specs.Places.{Places, ArePlaces}
 use Rattle.native_code.specs.declared.insn.NativeInsn.{NativeInsn}
 use Rattle.native_code.specs.declared.insn.NativeInsn.TheVariants.{Plain, Go, GoIf}
 use Rattle.native_code.specs.Blocks.{front_code, whole_code}
@@ -50,3 +51,18 @@ module _ (p : Places) (metered : Bool) (code : List Insn) where
   -- The text: the bytes of native code.
   abbrev pub native_text : List ℕ
   native_text = flat_map bytes_of native_insns
+
+-- A jump leads to one of the first n blocks.
+abbrev pub LeadsBelow : ℕ → NativeInsn → Type 0
+LeadsBelow n (Plain i) = Unit {0}
+LeadsBelow n (Go k) = k < n
+LeadsBelow n (GoIf cond k) = k < n
+
+-- Native code is short: each block begins, and the last one ends, below 2^30.
+abbrev pub SmallOffsets : Type 0
+SmallOffsets = (p : Places) (metered : Bool) (code : List Insn) → IsCode code → ArePlaces p → (k : ℕ) → k ≤ suc (length code)
+    → offset_of p metered code k < 2 ^ 30
+
+-- Each jump leads to a block: that of an index of the code, or the one after the last.
+abbrev pub InnerTargets : Type 0
+InnerTargets = (p : Places) (metered : Bool) (code : List Insn) → IsCode code → All (LeadsBelow (suc (length code))) (whole_code p metered code)

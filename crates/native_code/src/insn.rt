@@ -1,5 +1,8 @@
 //! Instructions whose jumps name a block.
 
+ghost use Rattle.std.specs.Prelude.{◌≡◌, ◌<◌};
+ghost use Rattle.native_code.specs.Layout.{native_length};
+
 use x86_words::{X86Cond, X86Insn};
 
 /// An instruction of native code. A jump names its target by the index of a block: that of an Alpha
@@ -12,4 +15,18 @@ pub enum NativeInsn {
     Go(u32),
     /// `jCOND` to a block, if the condition holds.
     GoIf(X86Cond, u32),
+}
+
+impl NativeInsn {
+    /// Returns the length of the instruction in bytes, 1 to 10, wherever it leads.
+    pub fn length(self) -> usize
+        ensures value { result ≡ native_length self }
+        ensures below { result < 11 }
+    {
+        match self {
+            NativeInsn::Plain(insn) => insn.length(),
+            NativeInsn::Go(_) => 5,
+            NativeInsn::GoIf(_, _) => 6,
+        }
+    }
 }

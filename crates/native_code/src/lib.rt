@@ -25,4 +25,4 @@ mod insn;
 mod theorems;
 
 pub use insn::NativeInsn;
-pub use theorems::{head_laws, laws};
+pub use theorems::{head_laws, laws, layout_laws};

@@ -3,6 +3,7 @@
 ghost use Rattle.std.specs.Prelude.{◌≡◌, ℕ, ◌↔◌, true, List};
 ghost use Rattle.alpha_words.specs.declared.insn.Insn.{Insn};
 ghost use Rattle.native_code.specs.Heads.{IsLoopHead, is_loop_head};
+ghost use Rattle.native_code.specs.Layout.{SmallOffsets, InnerTargets};
 ghost use Rattle.native_code.specs.Calls.{Called, SimulatesRuns, Spends};
 ghost use Rattle.native_code.specs.Ends.{EndingCalls, ReturningCalls, SafeCalls};
 
@@ -10,6 +11,13 @@ ghost use Rattle.native_code.specs.Ends.{EndingCalls, ReturningCalls, SafeCalls}
 pub fn head_laws()
     ensures heads { (code : List Insn) (head : ℕ) → (is_loop_head code head ≡ true)
         ↔ IsLoopHead code head }
+{}
+
+/// Proves that displacements fit: native code is short (`small`), and its jumps lead to blocks
+/// (`targets`).
+pub fn layout_laws()
+    ensures small { SmallOffsets }
+    ensures targets { InnerTargets }
 {}
 
 /// Proves what calls of native code do.

@@ -2,6 +2,7 @@
 
 ghost use Rattle.std.specs.Prelude.{◌≡◌, ◌<◌, set, if◌then◌else◌};
 ghost use Rattle.native_steps.specs.Places as places;
+ghost use Rattle.native_steps.specs.Places.{ArePlaces};
 ghost use Rattle.native_steps.specs.Sequences as sequences;
 
 use alpha_words::{Reg, Rhs};
@@ -137,6 +138,13 @@ impl Places {
         self.regs.iter().copied().any(|place| is_in(place, reg))
     }
 
+    /// Proves that the places are lawful.
+    pub fn laws(&self)
+        ensures { ArePlaces self.now }
+    {
+        let _ = &self.regs; // opens the invariant for the prover
+    }
+
     /// Returns the place of an Alpha register.
     pub fn place(&self, r: Reg) -> Place
         requires { r < 31 }
@@ -147,7 +155,7 @@ impl Places {
 
     /// Returns the instruction that brings the word of an Alpha register into a register of the
     /// processor.
-    pub(crate) fn fetch(&self, r: Reg, to: X86Reg) -> X86Insn
+    pub fn fetch(&self, r: Reg, to: X86Reg) -> X86Insn
         ensures { result ≡ sequences.fetch self.now r to }
     {
         if r.number() == 31 {

@@ -1,14 +1,15 @@
 //! The sequences of instructions.
 
-ghost use Rattle.std.specs.Prelude.{◌≡◌, ◌++◌, ◌∷◌, [], OnOk};
+ghost use Rattle.std.specs.Prelude.{◌≡◌, ◌<◌, ◌++◌, ◌∷◌, [], OnOk};
 ghost use Rattle.alpha_cfg.specs.Actions as actions;
+ghost use Rattle.native_steps.specs.Places as places;
 ghost use Rattle.native_steps.specs.Sequences as sequences;
 
 use crate::places::{Place, Places, area, rax, rcx, slot};
 use alpha_words::{Cond, Insn, Reg, Rhs};
 use std::alloc::AllocError;
 use word_ops::Op;
-use x86_words::{AluOp, Scale, ShiftOp, X86Cond, X86Insn};
+use x86_words::{AluOp, Scale, ShiftOp, X86Cond, X86Insn, X86Reg};
 
 /// Returns the condition under which a branch is taken, after the test of its register.
 pub fn branch_cond(cond: Cond) -> X86Cond
@@ -162,6 +163,27 @@ fn push_op(out: &mut Vec<X86Insn>, op: Op) -> Result<(), AllocError>
 }
 
 impl Places {
+    /// Appends the instruction that brings a register of the processor into the place of an Alpha
+    /// register, if it has one. Errors: out of memory.
+    pub fn keep(&self, out: &mut Vec<X86Insn>, r: Reg, from: X86Reg) -> Result<(), AllocError>
+        requires { r < 31 }
+        ensures { OnOk result (out.new.items
+            ≡ out.old.items ++ sequences.keep_place (places.place_at self.now r) r from) }
+    {
+        match self.place(r) {
+            Place::Register(to) => out.extend_from_slice(&[X86Insn::Mov { to, from }]),
+            Place::Slot => {
+                let store = X86Insn::Store {
+                    base: area(),
+                    disp: slot(r),
+                    from,
+                };
+                out.extend_from_slice(&[store])
+            }
+            Place::Nowhere => Ok(()),
+        }
+    }
+
     /// Appends the instruction that brings rax into the place of an Alpha register, if it has one.
     /// Errors: out of memory.
     fn push_keep(&self, out: &mut Vec<X86Insn>, r: Reg) -> Result<(), AllocError>
@@ -170,18 +192,7 @@ impl Places {
         if r.number() == 31 {
             return Ok(());
         }
-        match self.place(r) {
-            Place::Register(to) => out.extend_from_slice(&[X86Insn::Mov { to, from: rax() }]),
-            Place::Slot => {
-                let store = X86Insn::Store {
-                    base: area(),
-                    disp: slot(r),
-                    from: rax(),
-                };
-                out.extend_from_slice(&[store])
-            }
-            Place::Nowhere => Ok(()),
-        }
+        self.keep(out, r, rax())
     }
 
     /// Appends the instructions that bring the sum of a register and a displacement into rax. Errors:

@@ -1,4 +1,4 @@
-//! Test runner for code words, runs, policies, formula texts, BPF programs, containers and x86-64.
+//! Test runner for code words, runs, policies, texts, BPF programs, containers, x86-64, native code.
 //!
 //! Each file of `data` is a table. An empty line of it, or one that begins with `#`, has no row
 //! (test case). The fields of the other lines are separated by tabs, except in the files whose
@@ -64,6 +64,10 @@
 //! quadwords from 2^40 on before it; and, on a processor after it, the offset, the registers that
 //! changed, the flags and the quadwords, or `left`. `bench/x86_rows` makes both tables.
 //!
+//! `native.tsv`, on translations: `plain`, or `fuel` if fuel is counted; the words of code of the second
+//! profile; and the bytes of its native code. `objects.tsv`, on object files: a function's name, its
+//! text, and the bytes of the file. `bench/x86_rows/native` makes both tables.
+//!
 //! `containers.txt`, on containers: a question, `=` and the expected answer. The bytes are pieces
 //! separated by blanks: `PCCA`; `#` before bytes in hexadecimal; a group of fields separated by
 //! commas, each a number, little-endian; `N*GROUP`, a group N times, in which a field `A+B` is A
@@ -83,6 +87,7 @@ mod blocks;
 mod bytes;
 mod codes;
 mod containers;
+mod native_rows;
 mod pieces;
 mod policies;
 mod programs;
@@ -112,10 +117,12 @@ enum Table {
     Containers,
     X86Bytes,
     X86Steps,
+    Native,
+    Objects,
 }
 
 /// Every table.
-const TABLES: [Table; 11] = [
+const TABLES: [Table; 13] = [
     Table::Words,
     Table::Runs,
     Table::Files,
@@ -127,6 +134,8 @@ const TABLES: [Table; 11] = [
     Table::Containers,
     Table::X86Bytes,
     Table::X86Steps,
+    Table::Native,
+    Table::Objects,
 ];
 
 impl Table {
@@ -144,6 +153,8 @@ impl Table {
             Table::Containers => "containers.txt",
             Table::X86Bytes => "x86_bytes.tsv",
             Table::X86Steps => "x86_steps.tsv",
+            Table::Native => "native.tsv",
+            Table::Objects => "objects.tsv",
         }
     }
 
@@ -156,7 +167,7 @@ impl Table {
             Table::BuiltIn => policies::built_in_rows(line),
             Table::Programs => programs::rows(line),
             Table::Texts | Table::Codes | Table::Questions | Table::Containers => 1,
-            Table::X86Bytes | Table::X86Steps => 1,
+            Table::X86Bytes | Table::X86Steps | Table::Native | Table::Objects => 1,
         }
     }
 
@@ -171,6 +182,7 @@ impl Table {
             Table::Texts | Table::Codes | Table::Questions | Table::Containers => wanted(line),
             Table::X86Bytes => field(line, 1),
             Table::X86Steps => field(line, 4),
+            Table::Native | Table::Objects => field(line, 2),
         }
     }
 
@@ -188,6 +200,8 @@ impl Table {
             Table::Containers => containers::answer(alloc, line),
             Table::X86Bytes => x86_rows::bytes_answer(alloc, line),
             Table::X86Steps => x86_rows::steps_answer(alloc, line),
+            Table::Native => native_rows::code_answer(alloc, line),
+            Table::Objects => native_rows::object_answer(alloc, line),
         }
     }
 }

@@ -1,6 +1,5 @@
 //! Why goals aren't listed.
 
-
 use hereditary_subst::Exhausted;
 use pcc_gate::Refusal;
 use thiserror::Error;

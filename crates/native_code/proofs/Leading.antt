@@ -1,0 +1,88 @@
+-- Jumps of native code lead to blocks.
+use Rattle.std.proofs.Common.{ℕ, zero, suc, ◌<◌, ◌≤◌, Bool, true, false, cond, ◌&&◌, List, [], ◌∷◌, ◌++◌, length, slice_get, Option, Some, None, refl, arith}
+use Rattle.std.proofs.Common.{◌≡◌, ℤ, pos, negsuc}
+use Rattle.std.specs.List.{All}
+use Rattle.std.proofs.lemmas.List.Elements.{All-nil, All-cons, All-append, All-map}
+use Rattle.alpha_words.specs.declared.insn.Insn.{Insn}
+use Rattle.alpha_words.specs.Lawful.{target_of}
+use Rattle.alpha_cfg.specs.Actions.{Test, Always, When, Action, action_of}
+use Rattle.alpha_cfg.specs.Actions as actions
+use Rattle.alpha_cfg.specs.Flow.{IsCode, InsideOf, landing, jump_of}
+use Rattle.x86_words.specs.declared.operators.AluOp.TheVariants as alu
+use Rattle.x86_words.specs.declared.operators.X86Cond.TheVariants.{Below}
+use Rattle.x86_words.specs.declared.insn.X86Insn.{X86Insn}
+use Rattle.x86_words.specs.declared.insn.X86Insn.TheVariants.{AluImm}
+use Rattle.native_steps.specs.Places.{Places, FUEL}
+use Rattle.native_steps.specs.Sequences.{insn_code, branch_cond}
+use Rattle.native_code.specs.declared.insn.NativeInsn.{NativeInsn}
+use Rattle.native_code.specs.declared.insn.NativeInsn.TheVariants.{Plain, Go, GoIf}
+use Rattle.native_code.specs.Heads.{is_loop_head}
+use Rattle.native_code.specs.Blocks.{plain, entry_code, branch_code, return_code, spent_code, end_code, fuel_code, block_at, front_code, whole_code}
+use Rattle.native_code.specs.Layout.{LeadsBelow}
+
+-- every jump of the list leads to a block
+abbrev Leads : ℕ → List NativeInsn → Type 0
+Leads n l = All (LeadsBelow n) l
+
+leads-nil : (n : ℕ) → Leads n []
+leads-nil n = All-nil (LeadsBelow n)
+
+leads-both : (n : ℕ) (l m : List NativeInsn) → Leads n l → Leads n m → Leads n (l ++ m)
+leads-both n l m h k = All-append (LeadsBelow n) l m h k
+
+leads-one : (n : ℕ) (i : NativeInsn) → LeadsBelow n i → Leads n (i ∷ [])
+leads-one n i h = All-cons (LeadsBelow n) i [] h (leads-nil n)
+
+leads-plain : (n : ℕ) (l : List X86Insn) → Leads n (plain l)
+leads-plain n l = All-map (LeadsBelow n) Plain l (λ k d lt. tt)
+
+-- where a branch of code with n instructions leads, if it leads anywhere
+abbrev Lands : ℕ → Option ℕ → Type 0
+Lands n None = Unit {0}
+Lands n (Some k) = k < n
+
+lands : (n : ℕ) (o : Option ℤ) → InsideOf n o → Lands n (landing o)
+lands n None h = tt
+lands n (Some (pos k)) h = h
+lands n (Some (negsuc k)) h = absurd h
+
+module _ (p : Places) (n : ℕ) where
+  branch-leads : (test : Test) (jump : Option ℕ) → Lands n jump → Leads (suc n) (branch_code p test jump)
+  branch-leads test None h = leads-nil (suc n)
+  branch-leads Always (Some k) h = leads-one (suc n) (Go k) (omega (arith, h))
+  branch-leads (When c r) (Some k) h = leads-one (suc n) (GoIf (branch_cond c) k) (omega (arith, h))
+
+  end-leads : (e : Action) (jump : Option ℕ) → Lands n jump → Leads (suc n) (end_code p e jump)
+  end-leads (actions.Branching test) jump h = branch-leads test jump h
+  end-leads actions.Return jump h = leads-plain (suc n) (return_code p)
+  end-leads (actions.Compute to word) jump h = leads-nil (suc n)
+  end-leads (actions.Load to base disp) jump h = leads-nil (suc n)
+  end-leads (actions.LoadAround to base disp) jump h = leads-nil (suc n)
+  end-leads (actions.Store from base disp) jump h = leads-nil (suc n)
+
+fuel-leads : (n : ℕ) (b : Bool) → Leads (suc n) (cond b (Plain (AluImm alu.Sub FUEL (pos 1)) ∷ GoIf Below n ∷ []) [])
+fuel-leads n true =
+    All-cons (LeadsBelow (suc n)) (Plain (AluImm alu.Sub FUEL (pos 1))) (GoIf Below n ∷ []) tt
+    (leads-one (suc n) (GoIf Below n) (omega arith))
+fuel-leads n false = leads-nil (suc n)
+
+module _ (p : Places) (metered : Bool) (code : List Insn) (ok : IsCode code) where
+  block-leads : (i : ℕ) (o : Option Insn) → slice_get code i ≡ o → Leads (suc (length code)) (block_at p metered code i o)
+  block-leads i None here = leads-plain (suc (length code)) (spent_code p)
+  block-leads i (Some insn) here =
+      let jump = lands (length code) (target_of i insn) (ok.inside i insn here) in
+      let last = end-leads p (length code) (action_of insn) (jump_of i insn) jump in
+      let rest =
+      leads-both (suc (length code)) (plain (insn_code p insn)) (end_code p (action_of insn) (jump_of i insn))
+      (leads-plain (suc (length code)) (insn_code p insn)) last in
+      leads-both (suc (length code)) (fuel_code p metered code i) (plain (insn_code p insn) ++ end_code p (action_of insn) (jump_of i insn))
+      (fuel-leads (length code) (metered && is_loop_head code i)) rest
+
+  front-leads : (k : ℕ) → Leads (suc (length code)) (front_code p metered code k)
+  front-leads zero = leads-plain (suc (length code)) (entry_code p)
+  front-leads (suc k) =
+      leads-both (suc (length code)) (front_code p metered code k) (block_at p metered code k (slice_get code k))
+      (front-leads k) (block-leads k (slice_get code k) refl)
+
+pub inner-targets : (p : Places) (metered : Bool) (code : List Insn) → IsCode code → All (LeadsBelow (suc (length code))) (whole_code p metered code)
+inner-targets p metered code ok = front-leads p metered code ok (suc (length code))

@@ -1,0 +1,5 @@
+mod Choices
+mod Scanning
+mod Joining
+mod Placing
+mod Translated
