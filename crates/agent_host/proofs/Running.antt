@@ -10,7 +10,7 @@ use Rattle.reference_machine.specs.Starts.{StartView, Fits, start_regs, start_st
 use Rattle.packet_store.specs.StartMeets.{StartMeetsIn}
 use Rattle.vcgen.specs.Conditions.{condition}
 use Rattle.term_table.specs.Table.{id_trees}
-use Rattle.lf_signature.specs.declared.WordSignature.TheVariants.{Sigma3}
+use Rattle.lf_signature.specs.Constants.{Longest}
 use Rattle.vcgen.specs.Encoded.{AreForms, AreEncodings}
 use Rattle.vcgen.specs.Safety.{IsAnnotated, all_steps, steps_after}
 use Rattle.pcc_gate.specs.First.{formulas}
@@ -41,11 +41,11 @@ pub record HasBegun (was : HostedView) (setup : StartView) (is : HostedView) : T
   pub fits : RightsFitAgent is (all_steps was.accepted.bound) (rights_of setup)
 
 module _ (m : HostedView)
-    (forms : AreForms Sigma3 m.accepted.bound (id_trees m.accepted.table m.accepted.invs))
+    (forms : AreForms Longest m.accepted.bound (id_trees m.accepted.table m.accepted.invs))
     (annotates : AreAnnotations m.accepted) (valid : IsConditionTrue m.accepted) where
   encoded : AreEncodings m.accepted.bound (id_trees m.accepted.table m.accepted.invs)
       (formulas (id_trees m.accepted.table m.accepted.invs))
-  encoded = formulas-encoded Sigma3 m.accepted.bound (id_trees m.accepted.table m.accepted.invs)
+  encoded = formulas-encoded Longest m.accepted.bound (id_trees m.accepted.table m.accepted.invs)
       forms
 
   is-annotated : IsAnnotated (annotated_code m.accepted)

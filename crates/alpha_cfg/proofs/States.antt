@@ -2,7 +2,7 @@
 use Rattle.std.proofs.Common.{◌≡◌, ℕ, zero, suc, ◌+◌, ◌^◌, ◌<◌, Bool, true, false, List, length, slice_get, Option, Some, None, IsSome, refl, ◌∙◌, arith, ℤ, pos, negsuc, if◌then◌else◌, subst, sym, neg_ℤ, ◌*◌}
 use Rattle.std.proofs.lemmas.Nat.{mod_below}
 use Rattle.std.specs.Int.{cast_unsigned, w64}
-use Rattle.word_ops.proofs.Bounds.{word_of-below}
+use Rattle.word_ops.proofs.EachOp.{word_of-below}
 use Rattle.word_ops.proofs.Memories.{IsMemory-write, read-below}
 use Rattle.word_ops.proofs.RegisterWords.{read_reg-below, AreRegs-write_reg}
 use Rattle.word_ops.specs.Memory.{read, write}

@@ -4,7 +4,7 @@
 use Rattle.std.specs.Prelude.{ℕ, ◌+◌, ◌<◌, Option, Some, None, ℤ, pos, ◌*ℤ◌}
 use Rattle.word_ops.specs.declared.Op.{Op}
 use Rattle.alpha_words.specs.declared.insn.Rhs.{Rhs}
-use Rattle.alpha_words.specs.declared.insn.Cond.{Cond}
+use Rattle.alpha_words.specs.declared.conditions.Cond.{Cond}
 use Rattle.alpha_words.specs.declared.insn.Insn.{Insn}
 use Rattle.alpha_words.specs.declared.insn.Format.{Format}
 use Rattle.alpha_words.specs.declared.insn.Format.TheVariants as F

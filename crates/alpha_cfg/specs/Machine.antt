@@ -1,16 +1,17 @@
 -- States of the machine, its steps and its runs, with a test at each access.
 -- Alpha Architecture Handbook, the instruction descriptions.
-use Rattle.std.specs.Prelude.{ℕ, zero, suc, ◌+◌, ◌%◌, ◌^◌, Bool, true, not, ◌==◌, if◌then◌else◌, List, slice_get, slice_index, Option, Some, None, bit_and, ℤ, ◌-◌}
+use Rattle.std.specs.Prelude.{ℕ, zero, suc, ◌+◌, ◌%◌, ◌^◌, Bool, true, not, if◌then◌else◌, List, slice_get, slice_index, Option, Some, None, bit_and, ℤ, ◌-◌}
 use Rattle.std.specs.Int.{cast_unsigned, w64}
-use Rattle.word_ops.specs.declared.Rel.TheVariants.{Slt, Sle}
 use Rattle.word_ops.specs.Words.{word_of, test_of}
 use Rattle.word_ops.specs.Memory.{Memory, read, write, IsMemory}
 use Rattle.word_ops.specs.Rights.{Rights, IsRights, allowed}
 use Rattle.word_ops.specs.Registers.{read_reg, write_reg, AreRegs}
 use Rattle.alpha_words.specs.declared.insn.Rhs.{Rhs}
 use Rattle.alpha_words.specs.declared.insn.Rhs.TheVariants.{Reg, Lit}
-use Rattle.alpha_words.specs.declared.insn.Cond.{Cond}
-use Rattle.alpha_words.specs.declared.insn.Cond.TheVariants.{LowClear, Zero, Negative, NotPositive, LowSet, NotZero, NotNegative, Positive}
+use Rattle.alpha_words.specs.declared.conditions.Cond.{Cond}
+use Rattle.alpha_words.specs.declared.conditions.Tested.{Tested}
+use Rattle.alpha_words.specs.declared.conditions.Tested.TheVariants.{Word, LowBit}
+use Rattle.alpha_words.specs.Conditions.{cond_tested, cond_relation, cond_taken}
 use Rattle.alpha_words.specs.declared.insn.Insn.{Insn}
 use Rattle.alpha_cfg.specs.Actions.{Computed, Sum, Applied, Test, Always, When, Action, action_of}
 use Rattle.alpha_cfg.specs.Actions as actions
@@ -48,16 +49,18 @@ address_of regs rb disp = (read_reg regs rb + cast_unsigned w64 disp) % 2 ^ 64
 abbrev pub aligned : ℕ → ℕ
 aligned a = a - a % 8
 
+-- what a branch compares with 0
+abbrev pub tested_word : Tested → ℕ → ℕ
+tested_word Word x = x
+tested_word LowBit x = bit_and x 1
+
+-- whether a branch's comparison holds of its register's word
+abbrev pub compares : Cond → ℕ → Bool
+compares c x = test_of (cond_relation c) (tested_word (cond_tested c) x) 0
+
 -- whether a conditional branch is taken
 abbrev pub takes : Cond → ℕ → Bool
-takes LowClear x = bit_and x 1 == 0
-takes Zero x = x == 0
-takes Negative x = test_of Slt x 0
-takes NotPositive x = test_of Sle x 0
-takes LowSet x = not (bit_and x 1 == 0)
-takes NotZero x = not (x == 0)
-takes NotNegative x = not (test_of Slt x 0)
-takes Positive x = not (test_of Sle x 0)
+takes c x = if cond_taken c then compares c x else not (compares c x)
 
 -- an access goes on to u where it may, and else is blocked and changes nothing
 abbrev pub access_outcome : Kind → Bool → ℕ → State → State → Step × State

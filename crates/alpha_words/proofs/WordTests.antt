@@ -10,8 +10,7 @@ use Rattle.word_ops.specs.Operators.{op_opcode, op_function, op_of_code, has_op,
 use Rattle.word_ops.specs.Tests.{AllPass, FirstFails, Answers, AreSharp}
 use Rattle.word_ops.proofs.EachOp.{op_of_code-op_code}
 use Rattle.word_ops.proofs.Tests.{test-sharp, flaw-exactly, value-exactly}
-use Rattle.alpha_words.specs.declared.insn.Cond.{Cond}
-use Rattle.alpha_words.specs.declared.insn.Cond.TheVariants.{LowClear, Zero, Negative, NotPositive, LowSet, NotZero, NotNegative, Positive}
+use Rattle.alpha_words.specs.declared.conditions.Cond.{Cond}
 use Rattle.alpha_words.specs.declared.insn.Insn.{Insn}
 use Rattle.alpha_words.specs.declared.insn.Insn.TheVariants.{Oper, Br, Ret}
 use Rattle.alpha_words.specs.declared.memory.MemoryOp.{MemoryOp}
@@ -19,7 +18,7 @@ use Rattle.alpha_words.specs.declared.memory.MemoryKind.{MemoryKind}
 use Rattle.alpha_words.specs.declared.memory.MemoryKind.TheVariants.{Address, Load, Store}
 use Rattle.alpha_words.specs.declared.fault.BadWord.{BadWord}
 use Rattle.alpha_words.specs.declared.fault.BadWord.TheVariants.{Opcode, Function, Reserved, KeptRegister, LoadToZero, BadReturn, BadLink}
-use Rattle.alpha_words.specs.Opcodes.{cond_opcode_of, cond_at}
+use Rattle.alpha_words.specs.Conditions.{cond_at}
 use Rattle.alpha_words.specs.MemoryOps.{memory_opcode, memory_kind, has_memory_op, memory_op_at, memory_op_of}
 use Rattle.alpha_words.specs.Formats.{memory_insn}
 use Rattle.alpha_words.specs.Encoding.{is_kept, Encodes}
@@ -27,22 +26,13 @@ use Rattle.alpha_words.specs.Decoding.{signed_of, reg_at, unless_kept, unless_re
 use Rattle.alpha_words.specs.Decoding.{decoded_operate, decoded_branch, is_return, decoded_other, decoded_by, decoded}
 use Rattle.alpha_words.specs.WordTests.{opcode_field, ra_field, rc_field, IsMemoryWord, IsOperateWord, HasOpcode, memory, operate, jump}
 use Rattle.alpha_words.specs.WordTests.{link, branch, HasFunction, HasZeros, WritesRegister, first, last, HasReturn, word_tests, IsBadWord}
+use Rattle.alpha_words.proofs.EachCond.{cond_at-cond_opcode_of}
 use Rattle.alpha_words.proofs.EachMemoryOp.{each_memory_op, memory_op_at-memory_opcode}
 use Rattle.alpha_words.proofs.Words.{IsOperator, operator_sound, IsCond, cond_sound, IsMemoryOp, memory_kept, decoded-Encodes}
 
 pub word_tests-sharp : (p : Profile) (w : ℕ) → AreSharp (word_tests p w)
 word_tests-sharp p w =
     (test-sharp _ _, (test-sharp _ _, (test-sharp _ _, (test-sharp _ _, (test-sharp _ _, (test-sharp _ _, (test-sharp _ _, tt)))))))
-
-cond_at-cond_opcode_of : (c : Cond) → cond_at (cond_opcode_of c) ≡ Some c
-cond_at-cond_opcode_of LowClear = refl
-cond_at-cond_opcode_of Zero = refl
-cond_at-cond_opcode_of Negative = refl
-cond_at-cond_opcode_of NotPositive = refl
-cond_at-cond_opcode_of LowSet = refl
-cond_at-cond_opcode_of NotZero = refl
-cond_at-cond_opcode_of NotNegative = refl
-cond_at-cond_opcode_of Positive = refl
 
 none_some : {A : Type 0} {x : A} → None ≡ Some x → ⊥
 none_some e = absurd cc

@@ -6,8 +6,7 @@ use Rattle.word_ops.specs.declared.Op.{Op}
 use Rattle.word_ops.specs.declared.Profile.{Profile}
 use Rattle.alpha_words.specs.declared.insn.Rhs.{Rhs}
 use Rattle.alpha_words.specs.declared.insn.Rhs.TheVariants.{Reg, Lit}
-use Rattle.alpha_words.specs.declared.insn.Cond.{Cond}
-use Rattle.alpha_words.specs.declared.insn.Cond.TheVariants.{LowClear, Zero, Negative, NotPositive, LowSet, NotZero, NotNegative, Positive}
+use Rattle.alpha_words.specs.declared.conditions.Cond.{Cond}
 use Rattle.alpha_words.specs.declared.insn.Insn.{Insn}
 use Rattle.alpha_words.specs.declared.insn.Insn.TheVariants.{Oper, Branch, Br, Ret}
 use Rattle.alpha_words.specs.declared.insn.Format.{Format}
@@ -19,8 +18,9 @@ use Rattle.alpha_words.specs.declared.fault.BadWord.{BadWord}
 use Rattle.alpha_words.specs.declared.fault.BadWord.TheVariants.{Opcode, Function, KeptRegister, LoadToZero, BadReturn, BadLink}
 use Rattle.word_ops.specs.Operators.{op_opcode, op_function, op_of_code, has_op, of_profile}
 use Rattle.word_ops.proofs.EachOp.{each_op, each_op_same, op_of_code-op_code, op_code_is}
+use Rattle.alpha_words.proofs.EachCond.{each_cond_same}
 use Rattle.alpha_words.proofs.EachMemoryOp.{each_memory_op_same, memory_op_at-memory_opcode, memory_opcode_is, format_of-memory_insn, insn_of-format_of}
-use Rattle.alpha_words.specs.Opcodes.{conditions, cond_opcode_of, cond_at}
+use Rattle.alpha_words.specs.Conditions.{conditions, cond_opcode_of, cond_at}
 use Rattle.alpha_words.specs.MemoryOps.{memory_opcode, memory_kind, has_memory_op, memory_op_at, memory_op_of}
 use Rattle.alpha_words.specs.Formats.{format_of, memory_insn, insn_of}
 use Rattle.alpha_words.specs.Lawful.{fault_of, operand_fault, missing_fault, missing_format, format_fault, register_fault, kept_fault, FitsFormat, HasFormat}
@@ -187,14 +187,9 @@ reading_oper p w op e =
     (each_op_same (λ o. other_at p w (op_opcode o)) (λ o. decoded_operate w (of_profile p (op_of_code (op_opcode o) (w / 2 ^ 5 % 128)))) refl op)
 
 reading_branch : (p : Profile) (w : ℕ) (c : Cond) → w / 2 ^ 26 ≡ cond_opcode_of c → decoded p w ≡ Ok (Branch c (reg_at w 21) (signed_of 20 (w % 2 ^ 21)))
-reading_branch p w LowClear e = reading_other p w 0x38 _ e refl refl
-reading_branch p w Zero e = reading_other p w 0x39 _ e refl refl
-reading_branch p w Negative e = reading_other p w 0x3A _ e refl refl
-reading_branch p w NotPositive e = reading_other p w 0x3B _ e refl refl
-reading_branch p w LowSet e = reading_other p w 0x3C _ e refl refl
-reading_branch p w NotZero e = reading_other p w 0x3D _ e refl refl
-reading_branch p w NotNegative e = reading_other p w 0x3E _ e refl refl
-reading_branch p w Positive e = reading_other p w 0x3F _ e refl refl
+reading_branch p w c e =
+    reading_other p w (cond_opcode_of c) _ e (each_cond_same (λ d. memory_op_at (cond_opcode_of d)) (λ d. None) refl c)
+    (each_cond_same (λ d. other_at p w (cond_opcode_of d)) (λ d. Ok (Branch d (reg_at w 21) (signed_of 20 (w % 2 ^ 21)))) refl c)
 
 -- the second operand of a word of the operate format
 rhs_complete : (w o ra f rc : ℕ) (rhs : Rhs) → w ≡ o * 2 ^ 26 + ra * 2 ^ 21 + rhs_bits rhs + f * 2 ^ 5 + rc → ra < 32 → f < 128 → rc < 32 → IsRhs rhs → (has_reserved w ≡ false) × (rhs_at w ≡ rhs)

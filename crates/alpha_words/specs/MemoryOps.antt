@@ -1,9 +1,10 @@
 -- The instructions of the memory format, a row each: opcode, mnemonic, what is done with the first register, and since which profile there is one.
 -- Alpha Architecture Handbook, "Memory Integer Load/Store Instructions" and the opcode tables.
-use Rattle.std.specs.Prelude.{ℕ, Bool, true, false, not, ◌||◌, ◌==◌, if◌then◌else◌, List, [], ◌∷◌, codes, Option, Some, None, find}
+use Rattle.std.specs.Prelude.{ℕ, Bool, nat_le, ◌==◌, if◌then◌else◌, List, [], ◌∷◌, codes, Option, Some, None, find}
 use Rattle.std.specs.Str.{bytes_eq}
 use Rattle.word_ops.specs.declared.Profile.{Profile}
 use Rattle.word_ops.specs.declared.Profile.TheVariants.{One, Two}
+use Rattle.word_ops.specs.Operators.{profile_number}
 use Rattle.alpha_words.specs.declared.memory.MemoryOp.{MemoryOp}
 use Rattle.alpha_words.specs.declared.memory.MemoryOp.TheVariants.{Lda, Ldah, Ldq, LdqU, Stq}
 use Rattle.alpha_words.specs.declared.memory.MemoryKind.{MemoryKind}
@@ -48,14 +49,9 @@ memory_kind o = (memory_row o).kind
 abbrev pub memory_since : MemoryOp → Profile
 memory_since o = (memory_row o).since
 
--- whether the profile is the second
-abbrev pub is_two : Profile → Bool
-is_two One = false
-is_two Two = true
-
--- whether a profile has the instruction: the second has all
+-- whether a profile has the instruction: it is the first that has it, or a later one
 abbrev pub has_memory_op : Profile → MemoryOp → Bool
-has_memory_op p o = is_two p || not (is_two (memory_since o))
+has_memory_op p o = nat_le (profile_number (memory_since o)) (profile_number p)
 
 -- the instruction of an opcode
 abbrev pub memory_op_at : ℕ → Option MemoryOp

@@ -5,12 +5,12 @@ use Rattle.word_ops.specs.declared.Op.{Op}
 use Rattle.word_ops.specs.declared.Profile.{Profile}
 use Rattle.word_ops.specs.Operators.{op_opcode, op_function, has_op}
 use Rattle.word_ops.specs.Tests.{TestFor, test, FirstFails}
-use Rattle.alpha_words.specs.declared.insn.Cond.{Cond}
+use Rattle.alpha_words.specs.declared.conditions.Cond.{Cond}
 use Rattle.alpha_words.specs.declared.memory.MemoryOp.{MemoryOp}
 use Rattle.alpha_words.specs.declared.memory.MemoryKind.TheVariants.{Load, Store}
 use Rattle.alpha_words.specs.declared.fault.BadWord.{BadWord}
 use Rattle.alpha_words.specs.declared.fault.BadWord.TheVariants.{Opcode, Function, Reserved, KeptRegister, LoadToZero, BadReturn, BadLink}
-use Rattle.alpha_words.specs.Opcodes.{cond_opcode_of}
+use Rattle.alpha_words.specs.Conditions.{cond_opcode_of}
 use Rattle.alpha_words.specs.MemoryOps.{memory_opcode, memory_kind, has_memory_op}
 use Rattle.alpha_words.specs.Encoding.{is_kept}
 

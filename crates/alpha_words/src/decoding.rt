@@ -6,14 +6,14 @@ ghost use Rattle.alpha_words.specs.WordTests.{IsBadWord};
 ghost use Rattle.alpha_words.specs.declared.insn.Insn.{Insn};
 ghost use Rattle.alpha_words.specs.declared.fault.BadWord as bad_word;
 ghost use Rattle.word_ops.specs.Operators.{op_of_code, of_profile};
-ghost use Rattle.alpha_words.specs.Opcodes.{cond_at};
+ghost use Rattle.alpha_words.specs.Conditions.{cond_at};
 ghost use Rattle.alpha_words.specs.Decoding as decoding;
 ghost use Rattle.alpha_words.specs.Encoding as encoding;
 
+use crate::conditions::cond_at;
 use crate::fault::BadWord;
 use crate::insn::{Insn, Rhs, memory_insn};
 use crate::memory::{MemoryKind, MemoryOp, memory_kind, memory_op_at, memory_op_of};
-use crate::opcodes::cond_at;
 use crate::reg::Reg;
 use word_ops::{Profile, of_profile, op_of_code};
 

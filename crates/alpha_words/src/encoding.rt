@@ -7,10 +7,10 @@ ghost use Rattle.alpha_words.specs.Lawful.{fault_of, operand_fault, missing_faul
 ghost use Rattle.alpha_words.specs.Lawful.{register_fault};
 ghost use Rattle.alpha_words.specs.Lawful.{HasFormat, target_of};
 
+use crate::conditions::cond_opcode_of;
 use crate::fault::BadWord;
 use crate::insn::{Format, Insn, Rhs};
 use crate::memory::{MemoryKind, has_memory_op, memory_kind, memory_opcode};
-use crate::opcodes::cond_opcode_of;
 use crate::reg::Reg;
 use word_ops::{Op, Profile, has_op, op_code};
 

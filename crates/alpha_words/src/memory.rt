@@ -9,7 +9,7 @@ ghost use Rattle.std.specs.Prelude.{◌≡◌, ◌<◌, ◌==◌};
 ghost use Rattle.std.specs.Str.{bytes_eq};
 ghost use Rattle.alpha_words.specs.MemoryOps as table;
 
-use word_ops::Profile;
+use word_ops::{Profile, profile_number};
 
 /// An instruction of the memory format, without its operands.
 #[derive(Clone, Copy, Debug, PartialEq, Eq)]
@@ -88,21 +88,11 @@ pub fn memory_kind(op: MemoryOp) -> MemoryKind
     memory_row(op).2
 }
 
-/// Checks whether `profile` is profile 2.
-pub fn is_two(profile: Profile) -> bool
-    ensures { result ≡ table.is_two profile }
-{
-    match profile {
-        Profile::One => false,
-        Profile::Two => true,
-    }
-}
-
 /// Checks whether `profile` has the instruction of the memory format `op`.
 pub fn has_memory_op(profile: Profile, op: MemoryOp) -> bool
     ensures { result ≡ table.has_memory_op profile op }
 {
-    is_two(profile) || !is_two(memory_row(op).3)
+    profile_number(memory_row(op).3) <= profile_number(profile)
 }
 
 /// Returns the instruction of the memory format with this opcode, or None if none has it.

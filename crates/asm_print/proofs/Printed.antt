@@ -4,10 +4,10 @@ use Rattle.std.specs.Prelude.{codes, ℤ, pos, negsuc, ◌+ℤ◌}
 use Rattle.std.specs.Fmt.{signed_decimal}
 use Rattle.std.proofs.lemmas.Fmt.{decimal_injective}
 use Rattle.word_ops.specs.declared.Profile.{Profile}
-use Rattle.word_ops.specs.declared.Profile.TheVariants.{Two}
+use Rattle.word_ops.proofs.EachOp.{last_has}
 use Rattle.word_ops.specs.declared.Op.{Op}
-use Rattle.word_ops.specs.Operators.{op_mnemonic, has_op}
-use Rattle.alpha_words.specs.declared.insn.Cond.{Cond}
+use Rattle.word_ops.specs.Operators.{Last, op_mnemonic, has_op}
+use Rattle.alpha_words.specs.declared.conditions.Cond.{Cond}
 use Rattle.alpha_words.specs.declared.insn.Insn.{Insn}
 use Rattle.alpha_words.specs.declared.insn.Insn.TheVariants as I
 use Rattle.alpha_words.specs.declared.insn.Format.{Format}
@@ -18,13 +18,13 @@ use Rattle.alpha_words.specs.MemoryOps.{memory_mnemonic, has_memory_op}
 use Rattle.alpha_words.specs.Formats.{format_of, memory_insn, insn_of}
 use Rattle.alpha_words.specs.Encoding.{HasBits, IsRhs, HasFormatFields, has_format, has_insn}
 use Rattle.alpha_words.specs.Lawful.{format_target, target_of}
-use Rattle.alpha_words.proofs.EachMemoryOp.{each_memory_op_same, format_of-memory_insn, insn_of-format_of}
+use Rattle.alpha_words.proofs.EachMemoryOp.{each_memory_op, each_memory_op_same, format_of-memory_insn, insn_of-format_of}
 use Rattle.alpha_words.proofs.Words.{HasFields-Encodes}
 use Rattle.alpha_cfg.specs.Flow.{InsideOf, index_of, jump_of, IsCode}
 use Rattle.text_tokens.specs.Tokens.{Token, Lexeme}
 use Rattle.asm_text.specs.declared.marks.Punct.{Punct}
 use Rattle.asm_text.specs.Labels.{is_label}
-use Rattle.asm_text.specs.Mnemonics.{branch_mnemonic}
+use Rattle.alpha_words.specs.Conditions.{cond_mnemonic}
 use Rattle.asm_text.specs.Insns.{SourceInsn, Plain, SpellsMemory, SpellsOperate, SpellsFormat, SpellsInsn}
 use Rattle.asm_print.specs.Printing.{label_text, register_text, rhs_text, target_text, memory_text, operate_text}
 use Rattle.asm_print.specs.Printing.{with_operands, format_text, insn_text, source_insn, IsSpellable}
@@ -112,7 +112,7 @@ branch_printed p i cond ra disp a h =
     let l = target_text (jump_of i (I.Branch cond ra disp)) in
     let t : IsTarget l = target_is (pos (i + 1) +ℤ disp) h in
     let operands = with_comma (register_word ra a) (word_alone 11 l t.1) in
-    let all = begun 4 15 (branch_mnemonic cond) _ _ (omega arith) (branch_word cond) operands in
+    let all = begun 4 15 (cond_mnemonic cond) _ _ (omega arith) (branch_word cond) operands in
     (_, all, (_, (register_text ra, register_named ra a, t.0, refl), refl))
 
 br_printed : (p : Profile) (i : ℕ) (disp : ℤ) → InsideOf (2 ^ 32) (target_of i (I.Br disp))
@@ -142,14 +142,17 @@ pub insn_printed : (p : Profile) (i : ℕ) (insn : Insn) → has_insn p insn ≡
 insn_printed p i insn has h =
     subst (IsPrinted p i) (insn_of-format_of insn) (format_printed p i h.word (format_of insn) has h.fields h.target)
 
--- the second profile has all
-has_all : (f : Format) → has_format Two f ≡ true
-has_all (F.Operate op ra rhs rc) = refl
-has_all _ = refl
+-- the last profile has all
+has_all : (f : Format) → has_format Last f ≡ true
+has_all (F.Memory op ra rb disp) = each_memory_op (has_memory_op Last) refl op
+has_all (F.Operate op ra rhs rc) = last_has op
+has_all (F.Branch cond ra disp) = refl
+has_all (F.Br disp) = refl
+has_all F.Ret = refl
 
 pub insn_reads : (i : ℕ) (insn : Insn) → IsSpellable i insn
     → (ts : List (Token Punct)) × Reads 21 (insn_text i insn) ts
-insn_reads i insn h = let r = insn_printed Two i insn (has_all (format_of insn)) h in (r.0, r.1)
+insn_reads i insn h = let r = insn_printed Last i insn (has_all (format_of insn)) h in (r.0, r.1)
 
 -- ---- labels
 

@@ -11,8 +11,8 @@ use Rattle.std.proofs.lemmas.Fmt.{decimal_is_IsNumeral, length-decimal-le}
 use Rattle.word_ops.specs.declared.Op.{Op}
 use Rattle.word_ops.specs.Operators.{op_mnemonic}
 use Rattle.word_ops.proofs.EachOp.{each_op}
-use Rattle.alpha_words.specs.declared.insn.Cond.{Cond}
-use Rattle.alpha_words.specs.declared.insn.Cond.TheVariants as J
+use Rattle.alpha_words.specs.declared.conditions.Cond.{Cond}
+use Rattle.alpha_words.proofs.EachCond.{each_cond}
 use Rattle.alpha_words.specs.declared.insn.Rhs.{Rhs}
 use Rattle.alpha_words.specs.declared.insn.Rhs.TheVariants as R
 use Rattle.alpha_words.specs.declared.memory.MemoryOp.{MemoryOp}
@@ -28,7 +28,7 @@ use Rattle.asm_text.specs.declared.marks.Punct.{Punct}
 use Rattle.asm_text.specs.Marks.{source_class}
 use Rattle.asm_text.specs.Labels.{is_letter, are_letters_or_digits, is_label}
 use Rattle.asm_text.specs.Integers.{Integer, IsInteger, integer_value}
-use Rattle.asm_text.specs.Mnemonics.{branch_mnemonic}
+use Rattle.alpha_words.specs.Conditions.{cond_mnemonic}
 use Rattle.asm_text.specs.Insns.{IsDisplacement, SpellsRhs}
 use Rattle.asm_print.specs.Printing.{label_text, register_text, rhs_text}
 
@@ -228,19 +228,12 @@ pub op_word : (op : Op) → IsWord 6 (op_mnemonic op)
 unfolding source_class
 op_word op = word_by_test 6 (op_mnemonic op) (each_op (λ o. is_word 6 (op_mnemonic o)) refl op)
 
-branch_test : (cond : Cond) → is_word 4 (branch_mnemonic cond) ≡ true
+branch_test : (cond : Cond) → is_word 4 (cond_mnemonic cond) ≡ true
 unfolding source_class
-branch_test J.LowClear = refl
-branch_test J.Zero = refl
-branch_test J.Negative = refl
-branch_test J.NotPositive = refl
-branch_test J.LowSet = refl
-branch_test J.NotZero = refl
-branch_test J.NotNegative = refl
-branch_test J.Positive = refl
+branch_test = each_cond (λ c. is_word 4 (cond_mnemonic c)) refl
 
-pub branch_word : (cond : Cond) → IsWord 4 (branch_mnemonic cond)
-branch_word cond = word_by_test 4 (branch_mnemonic cond) (branch_test cond)
+pub branch_word : (cond : Cond) → IsWord 4 (cond_mnemonic cond)
+branch_word cond = word_by_test 4 (cond_mnemonic cond) (branch_test cond)
 
 pub memory_op_word : (op : MemoryOp) → IsWord 5 (memory_mnemonic op)
 unfolding source_class

@@ -16,7 +16,7 @@ use Rattle.alpha_words.specs.Formats.{format_of}
 use Rattle.alpha_words.specs.Encoding.{HasFields}
 use Rattle.alpha_words.specs.Lawful.{target_of}
 use Rattle.alpha_cfg.specs.Flow.{jump_of, InsideOf}
-use Rattle.asm_text.specs.Mnemonics.{branch_mnemonic}
+use Rattle.alpha_words.specs.Conditions.{cond_mnemonic}
 use Rattle.asm_text.specs.Insns.{SourceInsn, Plain, BranchTo, BrTo}
 
 -- ---- operands
@@ -63,7 +63,7 @@ with_operands mnemonic operands = mnemonic ++ (32 ∷ operands)
 abbrev pub format_text : Option ℕ → Format → List ℕ
 format_text target (Memory op ra rb disp) = with_operands (memory_mnemonic op) (memory_text ra rb disp)
 format_text target (Operate op ra rhs rc) = with_operands (op_mnemonic op) (operate_text ra rhs rc)
-format_text target (Branch cond ra disp) = with_operands (branch_mnemonic cond) (branch_text ra target)
+format_text target (Branch cond ra disp) = with_operands (cond_mnemonic cond) (branch_text ra target)
 format_text target (Br disp) = with_operands (codes "br") (target_text target)
 format_text target Ret = codes "ret"
 

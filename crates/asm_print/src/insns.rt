@@ -5,13 +5,12 @@ ghost use Rattle.std.specs.Prelude.{codes, decimal};
 ghost use Rattle.std.specs.Fmt.{signed_decimal};
 ghost use Rattle.alpha_words.specs.Lawful.{target_of};
 ghost use Rattle.alpha_cfg.specs.Flow.{InsideOf, index_of};
-ghost use Rattle.asm_text.specs.Mnemonics.{branch_mnemonic};
+ghost use Rattle.alpha_words.specs.Conditions.{cond_mnemonic};
 ghost use Rattle.asm_print.specs.Printing.{label_text, register_text, rhs_text, target_text};
 ghost use Rattle.asm_print.specs.Printing.{memory_text, operate_text, branch_text};
 ghost use Rattle.asm_print.specs.Printing.{with_operands, insn_text};
 
-use alpha_words::{Cond, Format, Insn, Reg, Rhs, memory_mnemonic};
-use asm_text::branch_mnemonic;
+use alpha_words::{Cond, Format, Insn, Reg, Rhs, cond_mnemonic, memory_mnemonic};
 use itoa::Buffer;
 use std::alloc::AllocError;
 use word_ops::op_mnemonic;
@@ -127,10 +126,10 @@ fn push_branch(
     disp: i32,
 ) -> Result<(), AllocError>
     requires { InsideOf (2 ^ 32) (Some (pos (index + 1) +ℤ disp)) }
-    ensures { OnOk result (out.new.items ≡ out.old.items ++ with_operands (branch_mnemonic cond)
+    ensures { OnOk result (out.new.items ≡ out.old.items ++ with_operands (cond_mnemonic cond)
         (branch_text ra (index_of (pos (index + 1) +ℤ disp)))) }
 {
-    push_mnemonic(out, branch_mnemonic(cond))?;
+    push_mnemonic(out, cond_mnemonic(cond))?;
     push_register(out, ra)?;
     out.push(b',')?;
     push_target(out, index, disp)

@@ -11,8 +11,8 @@ use Rattle.alpha_words.specs.MemoryOps.{memory_mnemonic, memory_op_named, has_me
 use Rattle.alpha_words.specs.Formats.{format_of, memory_insn, insn_of}
 use Rattle.alpha_words.specs.declared.memory.MemoryOp.{MemoryOp}
 use Rattle.alpha_words.proofs.EachMemoryOp.{each_memory_op_same, memory_op_named-memory_mnemonic, memory_mnemonic_is, format_of-memory_insn, insn_of-format_of}
-use Rattle.alpha_words.specs.declared.insn.Cond.{Cond}
-use Rattle.alpha_words.specs.declared.insn.Cond.TheVariants as J
+use Rattle.alpha_words.specs.declared.conditions.Cond.{Cond}
+use Rattle.alpha_words.proofs.EachCond.{each_cond_same}
 use Rattle.alpha_words.specs.declared.insn.Format.{Format}
 use Rattle.alpha_words.specs.declared.insn.Format.TheVariants as F
 use Rattle.alpha_words.specs.declared.insn.Insn.TheVariants as I
@@ -32,7 +32,8 @@ use Rattle.asm_text.specs.declared.mnemonics.Mnemonic.TheVariants as N
 use Rattle.asm_text.specs.Marks.{same_mark}
 use Rattle.asm_text.specs.Labels.{is_label}
 use Rattle.asm_text.specs.Integers.{Integer, IsInteger, lexeme_integer, is_integer, integer_value}
-use Rattle.asm_text.specs.Mnemonics.{branch_mnemonic, mnemonic_text, mnemonics, other_mnemonic, mnemonic_of, has_mnemonic}
+use Rattle.alpha_words.specs.Conditions.{cond_mnemonic}
+use Rattle.asm_text.specs.Mnemonics.{mnemonic_text, mnemonics, other_mnemonic, mnemonic_of, has_mnemonic}
 use Rattle.asm_text.specs.Insns.{SourceInsn, Plain, BranchTo, BrTo, IsDisplacement, IsCount, SpellsMemory, SpellsRhs, SpellsOperate}
 use Rattle.asm_text.specs.Insns.{SpellsBranch, SpellsBr, SpellsReturn, IsNop, Begins, SpellsFormat, SpellsInsn}
 use Rattle.asm_text.specs.InsnParsing.{next_lexeme, behind, at_end, displacement_at, memory_form, operate_form, last_label, branch_form, label_form, integer_or_flaw, return_form, some_register, register_at, fixed_register, is_displacement, in_displacement, displacement_of, in_count, count_of, memory_operands, parsed_memory, rhs_by, parsed_operate, parsed_branch, br_by, parsed_br, parsed_return, nop, parsed_operands, by_mnemonic, parsed_insn}
@@ -488,14 +489,7 @@ pub mnemonic_found : (profile : Profile) (m : Mnemonic) → has_mnemonic profile
 unfolding mnemonic_of other_mnemonic op_of_mnemonic memory_op_named
 mnemonic_found profile (N.Memory o) has = had_memory profile o has
 mnemonic_found profile (N.Oper o) has = had_operator profile o has
-mnemonic_found profile (N.Branch J.LowClear) has = refl
-mnemonic_found profile (N.Branch J.Zero) has = refl
-mnemonic_found profile (N.Branch J.Negative) has = refl
-mnemonic_found profile (N.Branch J.NotPositive) has = refl
-mnemonic_found profile (N.Branch J.LowSet) has = refl
-mnemonic_found profile (N.Branch J.NotZero) has = refl
-mnemonic_found profile (N.Branch J.NotNegative) has = refl
-mnemonic_found profile (N.Branch J.Positive) has = refl
+mnemonic_found profile (N.Branch j) has = each_cond_same (λ c. mnemonic_of profile (cond_mnemonic c)) (λ c. Some (N.Branch c)) refl j
 mnemonic_found profile N.Br has = refl
 mnemonic_found profile N.Ret has = refl
 mnemonic_found profile N.Nop has = refl
@@ -566,7 +560,7 @@ insn_ok profile (N.Memory op) ts i has e = memory_ok profile op ts i has e
 insn_ok profile (N.Oper op) ts i has e =
     let f = operate_ok op ts i e in subst (λ j. SpellsInsn profile j (Lexeme (op_mnemonic op) ∷ ts)) (sym f.4) (inl (has, (ts, f.3, refl)))
 insn_ok profile (N.Branch j) ts i has e =
-    let f = branch_ok j ts i e in subst (λ k. SpellsInsn profile k (Lexeme (branch_mnemonic j) ∷ ts)) (sym f.3) (ts, f.2, refl)
+    let f = branch_ok j ts i e in subst (λ k. SpellsInsn profile k (Lexeme (cond_mnemonic j) ∷ ts)) (sym f.3) (ts, f.2, refl)
 insn_ok profile N.Br ts i has e = let f = br_ok ts i e in subst (λ j. SpellsInsn profile j (Lexeme (codes "br") ∷ ts)) (sym f.2) (ts, f.1, refl)
 insn_ok profile N.Ret ts i has e = let f = return_ok ts i e in subst (λ j. SpellsInsn profile j (Lexeme (codes "ret") ∷ ts)) (sym f.1) (ts, f.0, refl)
 insn_ok profile N.Nop ts i has e =

@@ -3,7 +3,7 @@ use Rattle.std.proofs.Common.{◌≡◌, ◌⊎◌, ⊎_elim, inl, inr, ℕ, ◌
 use Rattle.std.specs.Prelude.{◌==◌, is_some, nat_le, nat_lt, ℤ, pos}
 use Rattle.word_ops.specs.declared.Op.{Op}
 use Rattle.alpha_words.specs.Formats.{memory_insn}
-use Rattle.alpha_words.specs.declared.insn.Cond.{Cond}
+use Rattle.alpha_words.specs.declared.conditions.Cond.{Cond}
 use Rattle.alpha_words.specs.declared.insn.Insn.TheVariants as I
 use Rattle.alpha_words.specs.declared.insn.Rhs.TheVariants as R
 use Rattle.text_tokens.specs.Tokens.{Token, Mark, Lexeme}

@@ -24,7 +24,8 @@ use Rattle.alpha_words.specs.MemoryOps.{memory_mnemonic, memory_op_named}
 use Rattle.asm_text.specs.Marks.{source_class, AreBlanks, same_mark}
 use Rattle.asm_text.specs.Labels.{is_label}
 use Rattle.word_ops.specs.Operators.{op_mnemonic, op_of_mnemonic}
-use Rattle.asm_text.specs.Mnemonics.{branch_mnemonic, mnemonic_of, other_mnemonic}
+use Rattle.alpha_words.specs.Conditions.{cond_mnemonic}
+use Rattle.asm_text.specs.Mnemonics.{mnemonic_of, other_mnemonic}
 use Rattle.asm_text.specs.Insns.{SourceInsn, Plain, BranchTo, BrTo, SpellsMemory, SpellsFormat, SpellsInsn}
 use Rattle.asm_text.specs.InsnParsing.{by_mnemonic, parsed_insn}
 use Rattle.asm_text.specs.Statements.{Statement, NoStatement, AnInsn, AnInv, Content, HasInv, SpellsStatement, HasLabel, SpellsBody, before_comment, are_printable, SpellsLine}
@@ -139,7 +140,7 @@ format_plain profile format.Ret ts h = (codes "ret", h.0, h.2, ⊎_elim (λ e. a
 
 insn_plain : (profile : Profile) (i : SourceInsn) (ts : List (Token Punct)) → SpellsInsn profile i ts → IsPlain ts
 insn_plain profile (Plain i) ts h = format_plain profile (format_of i) ts h
-insn_plain profile (BranchTo j ra l) ts h = (branch_mnemonic j, h.0, h.2, ap colon_next h.1.3)
+insn_plain profile (BranchTo j ra l) ts h = (cond_mnemonic j, h.0, h.2, ap colon_next h.1.3)
 insn_plain profile (BrTo l) ts h = (codes "br", h.0, h.2, ⊎_elim (λ e. ap colon_next e) (λ g. ap colon_next g.2) h.1.1)
 
 pub no_inv_mnemonic : (profile : Profile) → mnemonic_of profile (codes ".inv") ≡ None

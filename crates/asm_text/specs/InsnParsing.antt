@@ -4,7 +4,7 @@ use Rattle.word_ops.specs.declared.Op.{Op}
 use Rattle.word_ops.specs.declared.Op.TheVariants as O
 use Rattle.word_ops.specs.declared.Profile.{Profile}
 use Rattle.alpha_words.specs.declared.memory.MemoryOp.{MemoryOp}
-use Rattle.alpha_words.specs.declared.insn.Cond.{Cond}
+use Rattle.alpha_words.specs.declared.conditions.Cond.{Cond}
 use Rattle.alpha_words.specs.declared.insn.Insn.TheVariants as I
 use Rattle.alpha_words.specs.declared.insn.Rhs.{Rhs}
 use Rattle.alpha_words.specs.declared.insn.Rhs.TheVariants as R

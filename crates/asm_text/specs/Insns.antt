@@ -2,7 +2,7 @@
 use Rattle.std.specs.Prelude.{◌≡◌, ℕ, ◌≤◌, ◌<◌, ◌⊎◌, true, false, List, [], ◌∷◌, codes, ℤ, pos}
 use Rattle.word_ops.specs.declared.Op.{Op}
 use Rattle.word_ops.specs.declared.Op.TheVariants as O
-use Rattle.alpha_words.specs.declared.insn.Cond.{Cond}
+use Rattle.alpha_words.specs.declared.conditions.Cond.{Cond}
 use Rattle.alpha_words.specs.declared.insn.Insn.{Insn}
 use Rattle.alpha_words.specs.declared.insn.Format.{Format}
 use Rattle.alpha_words.specs.declared.insn.Format.TheVariants as F
@@ -18,7 +18,7 @@ use Rattle.word_ops.specs.declared.Profile.{Profile}
 use Rattle.word_ops.specs.Operators.{op_mnemonic, has_op}
 use Rattle.alpha_words.specs.MemoryOps.{memory_mnemonic, has_memory_op}
 use Rattle.alpha_words.specs.Formats.{format_of}
-use Rattle.asm_text.specs.Mnemonics.{branch_mnemonic}
+use Rattle.alpha_words.specs.Conditions.{cond_mnemonic}
 
 -- an instruction of a source; a branch goes to a label
 pub data SourceInsn : Type 0 where
@@ -87,5 +87,5 @@ SpellsFormat profile F.Ret ts = Begins (codes "ret") SpellsReturn ts
 -- the tokens spell the instruction, which the profile has
 abbrev pub SpellsInsn : Profile → SourceInsn → List (Token Punct) → Type 0
 SpellsInsn profile (Plain i) ts = SpellsFormat profile (format_of i) ts
-SpellsInsn profile (BranchTo j ra l) ts = Begins (branch_mnemonic j) (SpellsBranch ra l) ts
+SpellsInsn profile (BranchTo j ra l) ts = Begins (cond_mnemonic j) (SpellsBranch ra l) ts
 SpellsInsn profile (BrTo l) ts = Begins (codes "br") (SpellsBr l) ts

@@ -1,42 +1,28 @@
--- Mnemonics. Those of operators stand in the table of word_ops, those of the memory format in that of alpha_words, the others here.
+-- Mnemonics. Those of operators stand in the table of word_ops, those of the memory format and of conditional branches in those of
+-- alpha_words, the others here.
 -- Alpha Architecture Handbook, the opcode tables; `.inv` is this project's own.
-use Rattle.std.specs.Prelude.{ℕ, Bool, true, List, [], ◌∷◌, codes, Option, find}
+use Rattle.std.specs.Prelude.{ℕ, Bool, true, List, ◌∷◌, map, codes, Option, find}
 use Rattle.std.specs.Option.{option_map, option_or}
 use Rattle.std.specs.Str.{bytes_eq}
 use Rattle.word_ops.specs.declared.Profile.{Profile}
 use Rattle.word_ops.specs.Operators.{op_mnemonic, op_of_mnemonic, has_op, of_profile}
 use Rattle.alpha_words.specs.MemoryOps.{memory_mnemonic, memory_op_named, has_memory_op, memory_op_of}
-use Rattle.alpha_words.specs.declared.insn.Cond.{Cond}
-use Rattle.alpha_words.specs.declared.insn.Cond.TheVariants as J
+use Rattle.alpha_words.specs.Conditions.{conditions, cond_mnemonic}
 use Rattle.asm_text.specs.declared.mnemonics.Mnemonic.{Mnemonic}
 use Rattle.asm_text.specs.declared.mnemonics.Mnemonic.TheVariants as N
-
--- that of a conditional branch
-abbrev pub branch_mnemonic : Cond → List ℕ
-branch_mnemonic J.LowClear = codes "blbc"
-branch_mnemonic J.Zero = codes "beq"
-branch_mnemonic J.Negative = codes "blt"
-branch_mnemonic J.NotPositive = codes "ble"
-branch_mnemonic J.LowSet = codes "blbs"
-branch_mnemonic J.NotZero = codes "bne"
-branch_mnemonic J.NotNegative = codes "bge"
-branch_mnemonic J.Positive = codes "bgt"
 
 -- the lexeme that a mnemonic is
 abbrev pub mnemonic_text : Mnemonic → List ℕ
 mnemonic_text (N.Memory o) = memory_mnemonic o
 mnemonic_text (N.Oper o) = op_mnemonic o
-mnemonic_text (N.Branch j) = branch_mnemonic j
+mnemonic_text (N.Branch j) = cond_mnemonic j
 mnemonic_text N.Br = codes "br"
 mnemonic_text N.Ret = codes "ret"
 mnemonic_text N.Nop = codes "nop"
 
--- those that stand in no table of other crates, by opcode
+-- those that are neither operators nor of the memory format, by opcode
 abbrev pub mnemonics : List Mnemonic
-mnemonics =
-    N.Nop ∷ N.Ret ∷ N.Br ∷
-    N.Branch J.LowClear ∷ N.Branch J.Zero ∷ N.Branch J.Negative ∷ N.Branch J.NotPositive ∷
-    N.Branch J.LowSet ∷ N.Branch J.NotZero ∷ N.Branch J.NotNegative ∷ N.Branch J.Positive ∷ []
+mnemonics = N.Nop ∷ N.Ret ∷ N.Br ∷ map N.Branch conditions
 
 -- whether a profile has the mnemonic's instruction
 abbrev pub has_mnemonic : Profile → Mnemonic → Bool

@@ -32,7 +32,7 @@ pub use fault::{LineFault, LineFlaw, MAX_KIND};
 pub use insns::SrcInsn;
 pub use labels::Label;
 pub use limits::{MAX_INSNS, MAX_INVS, MAX_LINE, MAX_SOURCE};
-pub use mnemonics::{Mnemonic, branch_mnemonic, mnemonic_named};
+pub use mnemonics::{Mnemonic, mnemonic_named};
 pub use reading::read_source;
 pub use sources::Source;
 pub use theorems::laws;

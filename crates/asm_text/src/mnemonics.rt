@@ -2,10 +2,10 @@
 
 ghost use Rattle.std.specs.Prelude.{◌≡◌};
 ghost use Rattle.std.specs.Str.{bytes_eq};
-ghost use Rattle.asm_text.specs.Mnemonics.{branch_mnemonic, mnemonic_text};
+ghost use Rattle.asm_text.specs.Mnemonics.{mnemonic_text};
 ghost use Rattle.asm_text.specs.Mnemonics.{other_mnemonic, mnemonic_of};
 
-use alpha_words::{Cond, MemoryOp, memory_mnemonic, memory_op_named, memory_op_of};
+use alpha_words::{Cond, MemoryOp, cond_mnemonic, memory_mnemonic, memory_op_named, memory_op_of};
 use word_ops::{Op, Profile, of_profile, op_mnemonic, op_of_mnemonic};
 
 /// What the first lexeme of an instruction names.
@@ -25,7 +25,7 @@ pub enum Mnemonic {
     Nop,
 }
 
-/// The mnemonics that no table of other crates has, by opcode.
+/// The mnemonics that are neither operators nor of the memory format, by opcode.
 const MNEMONICS: [Mnemonic; 11] = [
     Mnemonic::Nop,
     Mnemonic::Ret,
@@ -40,29 +40,13 @@ const MNEMONICS: [Mnemonic; 11] = [
     Mnemonic::Branch(Cond::Positive),
 ];
 
-/// Returns the mnemonic of the branch that is taken on the condition.
-pub fn branch_mnemonic(cond: Cond) -> &'static str
-    ensures { result.now ≡ branch_mnemonic cond }
-{
-    match cond {
-        Cond::LowClear => "blbc",
-        Cond::Zero => "beq",
-        Cond::Negative => "blt",
-        Cond::NotPositive => "ble",
-        Cond::LowSet => "blbs",
-        Cond::NotZero => "bne",
-        Cond::NotNegative => "bge",
-        Cond::Positive => "bgt",
-    }
-}
-
 fn mnemonic_text(mnemonic: Mnemonic) -> &'static str
     ensures { result.now ≡ mnemonic_text mnemonic }
 {
     match mnemonic {
         Mnemonic::Memory(op) => memory_mnemonic(op),
         Mnemonic::Oper(op) => op_mnemonic(op),
-        Mnemonic::Branch(cond) => branch_mnemonic(cond),
+        Mnemonic::Branch(cond) => cond_mnemonic(cond),
         Mnemonic::Br => "br",
         Mnemonic::Ret => "ret",
         Mnemonic::Nop => "nop",
@@ -76,7 +60,8 @@ fn is_mnemonic(mnemonic: Mnemonic, lexeme: &[u8]) -> bool
     lexeme == mnemonic_text(mnemonic).as_bytes()
 }
 
-/// Returns the mnemonic that the lexeme is, of those that no other table has.
+/// Returns the mnemonic that the lexeme is, of those that are neither operators nor of the memory
+/// format.
 #[tactic(auto, unfolding(crate::specs::Mnemonics::other_mnemonic))]
 fn other_mnemonic(lexeme: &[u8]) -> Option<Mnemonic>
     ensures { result ≡ other_mnemonic lexeme.now }

@@ -1,16 +1,16 @@
 -- The container that is made: what it holds, and that it is accepted.
-use Rattle.std.proofs.Common.{◌≡◌, ℕ, ◌<◌, ◌≤◌, Bool, true, false, cond, is_some, ◌==◌, List, [], ◌∷◌, ◌++◌, map, length, Option, Some, None, Result, Ok, Err, Vec, refl, sym, ◌∙◌, ap, subst, arith}
+use Rattle.std.proofs.Common.{◌≡◌, ℕ, ◌<◌, ◌≤◌, Bool, true, false, is_some, List, [], ◌∷◌, ◌++◌, map, length, Option, Some, None, Result, Ok, Err, Vec, refl, sym, ◌∙◌, ap, subst, arith}
 use Rattle.std.specs.Global.{Global}
-use Rattle.std.proofs.lemmas.Bool.{ne_eqb}
 use Rattle.std.proofs.lemmas.List.Elements.{All-nil, All-cons, All-head, All-tail}
 use Rattle.alpha_words.specs.declared.insn.Insn.{Insn}
 use Rattle.alpha_cfg.proofs.Readings.{decoded_code-ok, AreOfProfile-EncodesCode}
 use Rattle.formula_tree.specs.Formulas.{Form}
-use Rattle.policy_set.specs.Views.{PolicyView, IsPolicy}
+use Rattle.alpha_cfg.specs.Flow.{AreOfProfile}
+use Rattle.policy_set.specs.Views.{PolicyView, IsPolicy, PolicyUses}
 use Rattle.term_table.specs.Tree.{Tree}
 use Rattle.term_table.specs.Table.{IsSmall}
 use Rattle.term_table.specs.Measures.{height_of}
-use Rattle.lf_signature.specs.Constants.{size_of, declared}
+use Rattle.lf_signature.specs.Constants.{operators_of, size_of, declared, Longest}
 use Rattle.lf_signature.specs.Terms.{pf}
 use Rattle.lf_signature.specs.Typing.{Checks}
 use Rattle.lf_signature.specs.Laws.Restricted.{checks_more}
@@ -40,21 +40,25 @@ use Rattle.bounds_prover.specs.declared.fault.ProveFault.TheVariants.{At, Memory
 use Rattle.bounds_prover.specs.declared.fault.ProveFlaw.{ProveFlaw}
 use Rattle.bounds_prover.specs.declared.fault.ProveFlaw.TheVariants.{Refused, NotEasy}
 use Rattle.prover_conditions.specs.Conditions.{condition_parts}
-use Rattle.prover_conditions.proofs.WholeProof.{IsSoundClass, condition-parts, parts-first, parts-second, parts-third, proof-checks}
+use Rattle.formula_tree.proofs.Used.{uses-more}
+use Rattle.prover_conditions.proofs.WholeProof.{IsSoundClass, condition-parts, parts-used, proof-checks}
 use Rattle.bounds_prover.specs.Proving.{with_proof, excess, encoded_unless, with_parts_proof, proved_contents, proved_code, proved_read, made_unless, proved_container, IsMadeAnswer}
 use Rattle.bounds_prover.proofs.Measures.{IsSmallEnough, small-enough}
 use Rattle.bounds_prover.proofs.SmallTerms.{checks-small, checks-entry}
-use Rattle.lf_signature.specs.declared.WordSignature.{WordSignature}
-use Rattle.lf_signature.specs.declared.WordSignature.TheVariants.{Sigma1, Sigma2, Sigma3}
+use Rattle.lf_signature.specs.declared.editions.WordSignature.{WordSignature}
+use Rattle.lf_signature.specs.Laws.Signatures.{numbered-version, later-operators, edition-operators, edition-rule}
 use Rattle.lf_signature.specs.Known.{HasOp}
+use Rattle.lf_signature.specs.declared.numbers.TheConstants.{SUB_LO}
 use Rattle.formula_tree.specs.Operators.{Uses}
 use Rattle.alpha_cfg.specs.CodeBytes.{EncodesCode}
-use Rattle.word_ops.specs.declared.Profile.TheVariants.{One}
-use Rattle.policy_set.proofs.Closed.{kind-first}
+use Rattle.word_ops.specs.declared.Op.{Op}
+use Rattle.word_ops.specs.declared.Profile.TheVariants.{Two}
+use Rattle.word_ops.specs.Operators.{has_op}
+use Rattle.policy_set.proofs.Closed.{policy-operators, kind-first}
 use Rattle.vcgen.proofs.Encodings.{forms-wider}
 use Rattle.proof_container.specs.declared.container.Head.{Head}
 use Rattle.proof_container.specs.declared.container.Head.TheVariants.{Number, Digest}
-use Rattle.proof_container.specs.Versions.{profile_of, signature_of, IsHead, IsBoundOf}
+use Rattle.proof_container.specs.Versions.{is_numbered, profile_of, signature_of, IsHead, IsBoundOf}
 use Rattle.vcgen.specs.Safety.{IsBound}
 use Rattle.pcc_gate.specs.ForPolicy.{IsFor}
 
@@ -114,7 +118,7 @@ module _ (sound : IsSoundClass) (policy : PolicyView) (kept : IsPolicy policy) (
   abbrev Parts : List Form
   Parts = condition_parts policy c.bound code c.invs
 
-  wide : AreForms Sigma3 c.bound c.invs
+  wide : AreForms Longest c.bound c.invs
   wide = forms-wider sig c.bound c.invs passes.forms
 
   fits : IsBound c.bound
@@ -122,36 +126,34 @@ module _ (sound : IsSoundClass) (policy : PolicyView) (kept : IsPolicy policy) (
 
   -- the signature has the rule for counted steps where these are bounded
   has-rule : (v : ℕ) (bound : Option ℕ) → IsBoundOf v bound → is_some bound ≡ true
-      → 104 < size_of (signature_of v)
+      → SUB_LO < size_of (signature_of v)
   has-rule v None h counted = let wrong : false ≡ true = counted in cc
-  has-rule v (Some n) h counted =
-      subst (λ w. 104 < size_of (signature_of w)) (sym h.0) (omega arith)
+  has-rule v (Some n) h counted = edition-rule v h.0
 
-  -- the later signatures have all operators
-  later-operators : (b : Bool)
-      → Uses (HasOp (declared (cond b Sigma3 Sigma2))) (conjoined Parts)
-  later-operators true =
-      parts-third sound policy c.bound code c.invs marks wide passes.code passes.annotated
-      passes.cut kept fits
-  later-operators false =
-      parts-second sound policy c.bound code c.invs marks wide passes.code passes.annotated
-      passes.cut kept fits
+  -- where a digest names the policy the signature has the second profile's operators, of which policies are
+  policy-used : (v : ℕ) → is_numbered v ≡ false → PolicyUses (λ o. has_op (operators_of (signature_of v)) o ≡ true) policy
+  policy-used v later =
+      let Had : Op → Type 0 = λ o. has_op (operators_of (signature_of v)) o ≡ true in
+      let more = uses-more (λ o. has_op Two o ≡ true) Had (later-operators v later) in
+      (more policy.pre (policy-operators policy.pre kept.asked), more policy.post (policy-operators policy.post kept.promised))
 
-  -- a policy that a number names is built in, so its operators are the first profile's; of one that
-  -- a digest names they may be any
+  -- a policy that a number names is built in, so its operators are the first profile's
+  policy-of : (v : ℕ) (h : Head) → IsHead v h → IsFor policy h
+      → PolicyUses (λ o. has_op (operators_of (signature_of v)) o ≡ true) policy
+  policy-of v (Number n) is named =
+      subst (λ w. PolicyUses (λ o. has_op (operators_of (signature_of w)) o ≡ true) policy)
+      (sym (numbered-version v is.0)) (kind-first policy named.0 kept named.1)
+  policy-of v (Digest d) is named = policy-used v is.0
+
+  -- so the signature has the operators of the condition
   operators-used : (v : ℕ) (h : Head) → IsHead v h → AreForms (signature_of v) c.bound c.invs
       → EncodesCode (profile_of v) c.code code → IsFor policy h
       → Uses (HasOp (declared (signature_of v))) (conjoined Parts)
-  operators-used v (Number n) is forms encoded named =
-      subst (λ w. Uses (HasOp (declared (signature_of w))) (conjoined Parts)) (sym is.0)
-      (parts-first sound policy c.bound code c.invs marks wide passes.code passes.annotated
-      passes.cut kept fits (subst (λ w. AreForms (signature_of w) c.bound c.invs) is.0 forms)
-      (AreOfProfile-EncodesCode One c.code code
-      (subst (λ w. EncodesCode (profile_of w) c.code code) is.0 encoded))
-      (kind-first policy named.0 kept named.1))
-  operators-used v (Digest d) is forms encoded named =
-      subst (λ b. Uses (HasOp (declared (cond b Sigma1 (cond (v == 3) Sigma3 Sigma2))))
-      (conjoined Parts)) (sym (ne_eqb v 1 is.0)) (later-operators (v == 3))
+  operators-used v h is forms encoded named =
+      parts-used sound policy c.bound code c.invs marks wide passes.code passes.annotated passes.cut
+      kept fits (signature_of v) forms
+      (subst (λ p. AreOfProfile p code) (sym (edition-operators v))
+      (AreOfProfile-EncodesCode (profile_of v) c.code code encoded)) (policy-of v h is named)
 
   module _ (p : Tree)
       (given : condition_proof (is_some c.bound) Parts ≡ Some p)

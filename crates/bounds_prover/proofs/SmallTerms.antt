@@ -7,11 +7,10 @@ use Rattle.term_table.specs.Measures.{height_of}
 use Rattle.term_table.proofs.Options.{bind_some}
 use Rattle.word_ops.specs.Operators.{op_of}
 use Rattle.lf_signature.specs.Numbers.{relations, rel_of}
-use Rattle.lf_signature.specs.Constants.{size_of, op_count_of, op_in, is_word, calc_type, fact_type, deny_type, declared}
+use Rattle.lf_signature.specs.Constants.{op_count_of, op_in, is_word, calc_type, fact_type, deny_type, declared}
 use Rattle.lf_signature.specs.Typing.{Checks, Synth, lam_checks, atom_checks, var_synth, con_synth, app_synth}
-use Rattle.lf_signature.specs.declared.WordSignature.{WordSignature}
-use Rattle.lf_signature.specs.declared.WordSignature.TheVariants.{Sigma1, Sigma2, Sigma3}
-use Rattle.lf_signature.specs.Laws.Within.{declared-number}
+use Rattle.lf_signature.specs.declared.editions.WordSignature.{WordSignature}
+use Rattle.lf_signature.specs.Laws.Within.{declared-number, few-constants, few-operators}
 use Rattle.lf_signature.specs.Laws.Booleans.{cond_is}
 use Rattle.proof_container.specs.Encoding.{IsEntryTerm}
 
@@ -37,17 +36,6 @@ words-small : (x y : ℕ) → (is_word x && is_word y) ≡ true → (x < 2 ^ 64)
 words-small x y e =
     let b = both (is_word x) (is_word y) e in
     (word-small x b.0, word-small y b.1)
-
--- a signature has few constants, and few operators
-few-constants : (s : WordSignature) → size_of s ≤ 105
-few-constants Sigma1 = omega arith
-few-constants Sigma2 = omega arith
-few-constants Sigma3 = omega arith
-
-few-operators : (s : WordSignature) → op_count_of s ≤ 19
-few-operators Sigma1 = omega arith
-few-operators Sigma2 = omega arith
-few-operators Sigma3 = omega arith
 
 module _ (s : WordSignature) where
   -- a constant that has a type is small

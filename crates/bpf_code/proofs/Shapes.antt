@@ -6,10 +6,10 @@ use Rattle.word_ops.specs.declared.Op.{Op}
 use Rattle.word_ops.specs.declared.Op.TheVariants.{Add, Band, Bis, Sll, Srl, Cmpeq, Cmpult, Cmpule}
 use Rattle.alpha_words.specs.declared.insn.Rhs.{Rhs}
 use Rattle.alpha_words.specs.declared.insn.Rhs.TheVariants.{Reg, Lit}
-use Rattle.alpha_words.specs.declared.insn.Cond.TheVariants.{NotZero}
+use Rattle.alpha_words.specs.declared.conditions.Cond.TheVariants.{NotZero}
 use Rattle.alpha_words.specs.declared.insn.Insn.{Insn}
 use Rattle.alpha_words.specs.declared.insn.Insn.TheVariants.{Ldq, Oper, Branch, Br, Ret}
-use Rattle.alpha_words.specs.Opcodes.{cond_opcode_of}
+use Rattle.alpha_words.specs.Conditions.{cond_opcode_of}
 use Rattle.alpha_words.specs.Encoding.{IsWritableRegister, IsRhs, HasBits, memory_word, branch_word, operate_word, Encodes}
 use Rattle.alpha_words.specs.Lawful.{target_of}
 use Rattle.alpha_cfg.specs.Flow.{landing, next_of, jump_of, InsideOf, IsFinal, AreOfProfile, IsCode}

@@ -10,7 +10,7 @@ use Rattle.word_ops.specs.Rights.{Rights}
 use Rattle.word_ops.specs.declared.Op.TheVariants.{Add, Cmpult}
 use Rattle.alpha_words.specs.declared.insn.Insn.{Insn}
 use Rattle.alpha_words.specs.declared.insn.Insn.TheVariants.{Branch, Br, Ret}
-use Rattle.alpha_words.specs.declared.insn.Cond.TheVariants.{NotZero}
+use Rattle.alpha_words.specs.declared.conditions.Cond.TheVariants.{NotZero}
 use Rattle.alpha_cfg.specs.Flow.{jump_of}
 use Rattle.alpha_cfg.specs.Machine.{State, state_at, step_at, ends_with, run_of}
 use Rattle.alpha_cfg.specs.declared.outcome.Outcome.{Outcome}

@@ -50,14 +50,14 @@ use Rattle.bounds_prover.proofs.SmallTerms.{checks-small, checks-entry}
 use Rattle.bpf_compile.proofs.Known.{AreInvariants, inv_encodings, all-invariants, are-forms, formulas-again}
 use Rattle.bpf_compile.proofs.Passing.{IsFit, contents-pass}
 use Rattle.bpf_compile.proofs.Proved.{IsClassProof, class-proof, entries-few, container-made}
-use Rattle.lf_signature.specs.declared.WordSignature.TheVariants.{Sigma1}
+use Rattle.lf_signature.specs.declared.editions.WordSignature.TheVariants.{Sigma1}
 use Rattle.formula_tree.specs.Operators.{Uses}
 use Rattle.formula_tree.proofs.Used.{uses-more}
 use Rattle.lf_signature.specs.Known.{HasOp}
 use Rattle.lf_signature.specs.Laws.Within.{first-declared}
 use Rattle.std.proofs.lemmas.List.Elements.{All-nil, All-cons}
 use Rattle.policy_set.proofs.Closed.{pre-first, post-first}
-use Rattle.vcgen.proofs.Used.{first-operators, condition-uses}
+use Rattle.vcgen.proofs.Used.{profile-operators, condition-uses}
 use Rattle.word_ops.specs.Operators.{IsFirstOp}
 use Rattle.word_ops.specs.declared.Profile.TheVariants.{One}
 
@@ -87,7 +87,7 @@ parts-used program is =
     uses-more IsFirstOp (HasOp (declared Sigma1)) first-declared (conjoined (bpf_parts program))
     (subst (λ F. Uses IsFirstOp F) (sym (program-condition program))
     (condition-uses IsFirstOp refl refl refl (annotated_bpf program)
-    (first-operators (bpf_code program) (code-first program is)) (pre-first Filter)
+    (profile-operators One (bpf_code program) (code-first program is)) (pre-first Filter)
     (post-first Filter) (invariants-first (bpf_invariants program) (all-invariants program))))
 
 parts-low : (program : List Bpf) → IsProgram program → form_height (conjoined (bpf_parts program)) ≤ 2 ^ 29

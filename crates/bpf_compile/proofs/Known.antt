@@ -30,7 +30,7 @@ use Rattle.bpf_words.specs.Programs.{bpf_op}
 use Rattle.bpf_condition.specs.Invariants.{packet_invariant, end_invariant, invariants_of, invariants_from, bpf_invariants}
 use Rattle.bpf_condition.proofs.Placed.{all-append}
 use Rattle.bounds_prover.proofs.SmallTerms.{checks-small, checks-entry}
-use Rattle.lf_signature.specs.declared.WordSignature.TheVariants.{Sigma1}
+use Rattle.lf_signature.specs.declared.editions.WordSignature.TheVariants.{Sigma1}
 use Rattle.lf_signature.specs.Known.{HasOp}
 use Rattle.lf_signature.specs.Laws.Within.{declared_known, first-declared}
 use Rattle.formula_tree.specs.Operators.{Uses}

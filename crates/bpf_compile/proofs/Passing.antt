@@ -95,7 +95,7 @@ module _ (program : List Bpf) (code : List ℕ) (is : IsProgram program) (holds 
       record {
         version = (omega arith, omega arith);
         head = head-is;
-        bound = λ is. omega (arith, is);
+        bound = refl;
         bytes = holds.bytes;
         whole = omega (arith, size);
         some = omega (arith, size, long, some);

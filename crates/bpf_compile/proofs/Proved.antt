@@ -5,7 +5,9 @@ use Rattle.alpha_cfg.proofs.Readings.{decoded_code-ok}
 use Rattle.policy_set.specs.declared.kind.PolicyKind.TheVariants.{Filter}
 use Rattle.policy_set.specs.Views.{built_in}
 use Rattle.term_table.specs.Tree.{Tree}
-use Rattle.term_table.specs.Measures.{height_of, weight_of, sigma1_places, capped}
+use Rattle.term_table.specs.Measures.{height_of, weight_of, capped}
+use Rattle.lf_signature.specs.declared.editions.WordSignature.TheVariants.{Sigma1}
+use Rattle.lf_signature.specs.Constants.{places_of}
 use Rattle.proof_container.specs.Contents.{Contents, roots}
 use Rattle.proof_container.specs.Encoding.{encoding_of}
 use Rattle.proof_container.specs.Postorder.{entries}
@@ -59,7 +61,7 @@ nothing-past c p light low few short =
 
 -- what is asked of the class's proof of a program's condition
 pub record IsClassProof (program : List Bpf) (p : Tree) : Type 0 where
-  pub light : weight_of sigma1_places p ≤ MAX_WEIGHT
+  pub light : weight_of (places_of Sigma1) p ≤ MAX_WEIGHT
   pub low : height_of p ≤ MAX_HEIGHT
 
 pub class-proof : (program : List Bpf) (p : Tree) → IsProgram program → condition_proof false (bpf_parts program) ≡ Some p → IsClassProof program p

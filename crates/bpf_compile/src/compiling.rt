@@ -13,10 +13,11 @@ use crate::words::bytes_of;
 use bounds_prover::{ProveFault, prove_within};
 use bpf_code::bpf_code;
 use bpf_words::Bpf;
+use lf_signature::WordSignature;
 use policy_set::{Policy, PolicyKind};
 use proof_container::{Head, View, write};
 use std::alloc::{AllocError, Global};
-use term_table::{Places, Table};
+use term_table::Table;
 
 /// Returns the container of a program without a proof. Errors: out of memory.
 fn bare(alloc: Global, policy: &Policy, program: &[Bpf]) -> Result<Vec<u8>, AllocError>
@@ -29,7 +30,7 @@ fn bare(alloc: Global, policy: &Policy, program: &[Bpf]) -> Result<Vec<u8>, Allo
     crate::written_laws();
     let insns = bpf_code(alloc, program)?;
     let code = bytes_of(alloc, &insns)?;
-    let mut table = Table::new(alloc, Places::sigma1());
+    let mut table = Table::new(alloc, WordSignature::Sigma1.places());
     let invs = encode_invs(alloc, &mut table, policy, program)?;
     let view = View {
         version: 1,

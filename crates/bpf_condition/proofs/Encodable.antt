@@ -5,11 +5,11 @@ use Rattle.std.specs.List.{AllByRecursion}
 use Rattle.word_ops.specs.declared.Op.{Op}
 use Rattle.word_ops.specs.declared.Op.TheVariants.{Add, Band, Bis, Sll, Srl, Cmpeq, Cmpult, Cmpule}
 use Rattle.alpha_words.specs.declared.insn.Rhs.TheVariants.{Reg, Lit}
-use Rattle.alpha_words.specs.declared.insn.Cond.TheVariants.{NotZero}
+use Rattle.alpha_words.specs.declared.conditions.Cond.TheVariants.{NotZero}
 use Rattle.alpha_words.specs.declared.insn.Insn.{Insn}
 use Rattle.alpha_words.specs.declared.insn.Insn.TheVariants.{Lda, Ldq, Oper, Branch, Br, Ret}
 use Rattle.alpha_words.specs.Encoding.{IsWritableRegister, memory_word, branch_word, operate_word}
-use Rattle.alpha_words.specs.Opcodes.{cond_opcode_of}
+use Rattle.alpha_words.specs.Conditions.{cond_opcode_of}
 use Rattle.alpha_cfg.specs.Flow.{IsInsn}
 use Rattle.bpf_words.specs.declared.insn.BpfOp.{BpfOp}
 use Rattle.bpf_words.specs.declared.insn.BpfOp.TheVariants as ops

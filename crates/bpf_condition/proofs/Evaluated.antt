@@ -7,7 +7,9 @@ use Rattle.std.proofs.lemmas.Bool.{and_parts, leb-true}
 use Rattle.formula_tree.specs.Formulas.{Form}
 use Rattle.term_table.specs.Tree.{Tree}
 use Rattle.term_table.specs.Subst.{bind}
-use Rattle.term_table.specs.Measures.{weight_of, height_of, sigma1_places}
+use Rattle.term_table.specs.Measures.{weight_of, height_of}
+use Rattle.lf_signature.specs.declared.editions.WordSignature.TheVariants.{Sigma1}
+use Rattle.lf_signature.specs.Constants.{places_of}
 use Rattle.lf_terms.specs.Encoding.{form_encoding}
 use Rattle.lf_terms.specs.ProofTerms.{tt_i, and_i}
 use Rattle.lf_encode.specs.Contexts.{machine_names}
@@ -20,7 +22,7 @@ use Rattle.bpf_condition.specs.PartForms.{part_forms}
 -- whether a proof weighs at most 250 and is at most 100 high, and the part's encoding no higher
 abbrev light_by : Form → Option Tree → Bool
 light_by A None = false
-light_by A (Some p) = nat_le (weight_of sigma1_places p) 250 && (nat_le (height_of p) 100 && nat_le (height_of (form_encoding A)) 100)
+light_by A (Some p) = nat_le (weight_of (places_of Sigma1) p) 250 && (nat_le (height_of p) 100 && nat_le (height_of (form_encoding A)) 100)
 
 -- whether the class's proof of the part is so
 unfoldable pub is_light : Form → Bool
@@ -34,19 +36,19 @@ IsLight A = is_light A ≡ true
 pub record LightProof (A : Form) : Type 0 where
   pub proof : Tree
   pub given : part_proof false A ≡ Some proof
-  pub weight : weight_of sigma1_places proof ≤ 250
+  pub weight : weight_of (places_of Sigma1) proof ≤ 250
   pub height : height_of proof ≤ 100
   pub formula : height_of (form_encoding A) ≤ 100
 
 light-by : (A : Form) (o : Option Tree) → part_proof false A ≡ o → light_by A o ≡ true → LightProof A
 light-by A None e h = cc
 light-by A (Some p) e h =
-    let parts = and_parts (nat_le (weight_of sigma1_places p) 250) (nat_le (height_of p) 100 && nat_le (height_of (form_encoding A)) 100) h in
+    let parts = and_parts (nat_le (weight_of (places_of Sigma1) p) 250) (nat_le (height_of p) 100 && nat_le (height_of (form_encoding A)) 100) h in
     let heights = and_parts (nat_le (height_of p) 100) (nat_le (height_of (form_encoding A)) 100) parts.1 in
     record {
       proof = p;
       given = e;
-      weight = leb-true (weight_of sigma1_places p) 250 parts.0;
+      weight = leb-true (weight_of (places_of Sigma1) p) 250 parts.0;
       height = leb-true (height_of p) 100 heights.0;
       formula = leb-true (height_of (form_encoding A)) 100 heights.1;
     }
@@ -80,7 +82,7 @@ part-proof A h = light-proof A (each-contained part_forms part_forms-light A h.0
 pub record AreProved (parts : List Form) : Type 0 where
   pub proof : Tree
   pub given : condition_proof false parts ≡ Some proof
-  pub weight : weight_of sigma1_places proof ≤ 1 + 253 * length parts
+  pub weight : weight_of (places_of Sigma1) proof ≤ 1 + 253 * length parts
   pub height : height_of proof ≤ 108 + 4 * length parts
   pub formula : height_of (form_encoding (conjoined parts)) ≤ 102 + 2 * length parts
 

@@ -3,8 +3,7 @@ use Rattle.std.proofs.Common.{◌≡◌, ℕ, zero, suc, ◌+◌, ◌<◌, ◌�
 use Rattle.std.specs.Prelude.{nat_le}
 use Rattle.std.proofs.lemmas.Bool.{leb-true}
 use Rattle.term_table.specs.Tree.{Tree, Con, Num}
-use Rattle.lf_signature.specs.declared.numbers.TheConstants.{TT, AND}
-use Rattle.lf_terms.specs.declared.numbers.TheConstants.{TT_I, AND_I}
+use Rattle.lf_signature.specs.declared.numbers.TheConstants.{AND, AND_I, TT, TT_I}
 use Rattle.formula_tree.specs.Formulas.{Form}
 use Rattle.lf_terms.specs.Encoding.{form_encoding}
 use Rattle.lf_terms.specs.ProofTerms.{tt_i}

@@ -3,7 +3,7 @@ use Rattle.std.proofs.Common.{◌≡◌, ℕ, suc, ◌+◌, ◌-◌, ◌*◌, �
 use Rattle.std.proofs.lemmas.Option.{same_Some, none-some}
 use Rattle.alpha_words.specs.declared.insn.Insn.{Insn}
 use Rattle.alpha_words.specs.declared.insn.Insn.TheVariants.{Lda, Ldq, Oper, Branch, Br, Ret}
-use Rattle.alpha_words.specs.declared.insn.Cond.TheVariants.{NotZero}
+use Rattle.alpha_words.specs.declared.conditions.Cond.TheVariants.{NotZero}
 use Rattle.alpha_words.specs.Lawful.{target_of}
 use Rattle.alpha_cfg.specs.Flow.{jump_of, InsideOf, IsFinal, IsInsn, IsCode}
 use Rattle.bpf_words.specs.declared.insn.Bpf.{Bpf}

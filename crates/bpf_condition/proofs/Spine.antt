@@ -4,8 +4,7 @@ use Rattle.std.specs.Option.{option_map}
 use Rattle.std.specs.List.{AllByRecursion}
 use Rattle.term_table.specs.Tree.{Tree, Con, App, Num}
 use Rattle.term_table.specs.Subst.{bind}
-use Rattle.lf_signature.specs.declared.numbers.TheConstants.{TT, AND}
-use Rattle.lf_terms.specs.declared.numbers.TheConstants.{TT_I, AND_I}
+use Rattle.lf_signature.specs.declared.numbers.TheConstants.{AND, AND_I, TT, TT_I}
 use Rattle.formula_tree.specs.Formulas.{Form}
 use Rattle.lf_terms.specs.Encoding.{form_encoding}
 use Rattle.lf_terms.specs.ProofTerms.{tt_i, and_i}

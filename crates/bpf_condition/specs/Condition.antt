@@ -3,7 +3,9 @@ use Rattle.std.specs.Prelude.{◌≡◌, ℕ, ◌+◌, ◌*◌, ◌≤◌, Bool,
 use Rattle.alpha_cfg.specs.Deciding.{flags_of}
 use Rattle.formula_tree.specs.Formulas.{Form}
 use Rattle.term_table.specs.Tree.{Tree}
-use Rattle.term_table.specs.Measures.{weight_of, height_of, sigma1_places}
+use Rattle.term_table.specs.Measures.{weight_of, height_of}
+use Rattle.lf_signature.specs.declared.editions.WordSignature.TheVariants.{Sigma1}
+use Rattle.lf_signature.specs.Constants.{places_of}
 use Rattle.lf_terms.specs.Encoding.{form_encoding}
 use Rattle.policy_set.specs.declared.kind.PolicyKind.TheVariants.{Filter}
 use Rattle.policy_set.specs.Views.{built_in}
@@ -38,6 +40,6 @@ most_height n = 112 + 8 * n
 pub record HasClassProof (program : List Bpf) : Type 0 where
   pub proof : Tree
   pub given : condition_proof false (bpf_parts program) ≡ Some proof
-  pub weight : weight_of sigma1_places proof ≤ most_weight (length program)
+  pub weight : weight_of (places_of Sigma1) proof ≤ most_weight (length program)
   pub height : height_of proof ≤ most_height (length program)
   pub formula : height_of (form_encoding (conjoined (bpf_parts program))) ≤ most_height (length program)

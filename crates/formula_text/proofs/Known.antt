@@ -16,7 +16,6 @@ use Rattle.formula_text.specs.declared.keywords.Keyword.TheVariants as K
 use Rattle.formula_text.specs.Keywords.{keyword_text, keywords, keyword_in, keyword_or, keyword_of, binder_sort, has_keyword}
 use Rattle.formula_text.specs.Bindings.{is_lower, are_lower_or_digits, is_identifier, is_left, is_reserved, is_name}
 use Rattle.word_ops.specs.declared.Profile.{Profile}
-use Rattle.word_ops.specs.declared.Profile.TheVariants.{One, Two}
 use Rattle.formula_text.specs.declared.keywords.PhraseSort.{PhraseSort}
 use Rattle.std.specs.List.{list_all}
 
@@ -82,8 +81,7 @@ listed_had profile (g ∷ hs) w h all e = listed_by (bytes_eq w (keyword_text g)
 
 keywords_had : (profile : Profile) → list_all (has_keyword profile) keywords ≡ true
 unfolding keywords
-keywords_had One = refl
-keywords_had Two = refl
+keywords_had profile = refl
 
 -- the lexeme is the keyword's text, and the profile has the keyword
 pub record IsKeyword (profile : Profile) (w : List ℕ) (h : Keyword) : Type 0 where

@@ -12,7 +12,7 @@ ghost use Rattle.hereditary_subst.specs.Limits.{SpendsResults};
 ghost use Rattle.lf_signature.specs.Terms.{imp_term};
 ghost use Rattle.lf_encode.specs.PutTree.{machine_terms_at};
 ghost use Rattle.lf_encode.specs.Contexts.{machine_context, encoding_in};
-ghost use Rattle.lf_signature.specs.declared.WordSignature.TheVariants.{Sigma3};
+ghost use Rattle.lf_signature.specs.Constants.{Longest};
 ghost use Rattle.vcgen.specs.Encoded.{AreForms};
 ghost use Rattle.vcgen.specs.Answers.{AreLowInvs, SpendsVc};
 ghost use Rattle.gate_match.specs.Answers.{IsConditionAnswer};
@@ -246,7 +246,7 @@ pub fn is_condition_with(
     formula: Id,
 ) -> Result<bool, VcFault>
     requires invs { AreLowInvs table.old invs.now }
-    requires forms { AreForms Sigma3 bound (id_trees table.old invs.now) }
+    requires forms { AreForms Longest bound (id_trees table.old invs.now) }
     requires marks { AreFlags (map (λ p. p.0) invs.now) (length cut.now.code) cut.now.marks }
     requires formula { IsKnown table.old formula }
     requires memo { IsMemo table.old memo.old }

@@ -5,8 +5,8 @@ use Rattle.alpha_words.specs.declared.insn.Insn.{Insn}
 use Rattle.alpha_cfg.specs.CodeBytes.{EncodesCode}
 use Rattle.term_table.specs.Tree.{Tree, Const, Num, Lit, Calc, Fact, Deny, Lemma}
 use Rattle.term_table.specs.Measures.{weight_of}
-use Rattle.lf_signature.specs.declared.WordSignature.{WordSignature}
-use Rattle.lf_signature.specs.declared.WordSignature.TheVariants.{Sigma1, Sigma2}
+use Rattle.lf_signature.specs.declared.editions.WordSignature.{WordSignature}
+use Rattle.lf_signature.specs.declared.editions.WordSignature.TheVariants.{Sigma1, Sigma2}
 use Rattle.lf_signature.specs.Constants.{places_of, size_of, op_count_of, declared}
 use Rattle.lf_signature.specs.Terms.{form, pf}
 use Rattle.lf_signature.specs.Typing.{Checks}
@@ -15,7 +15,7 @@ use Rattle.lf_lemmas.specs.Checking.{LemmasCheck}
 use Rattle.lf_encode.specs.Contexts.{machine_context, sort_types}
 use Rattle.policy_set.specs.declared.kind.PolicyKind.{PolicyKind}
 use Rattle.policy_set.specs.Policies.{pre_of, post_of}
-use Rattle.policy_set.specs.Names.{kind_number, IsNumberOf}
+use Rattle.policy_set.specs.Names.{kind_number, kind_numbered, IsNumberOf}
 use Rattle.policy_set.specs.Views.{PolicyView, built_in, IsPolicy}
 use Rattle.policy_set.specs.Digest.{digest_of}
 use Rattle.proof_container.specs.declared.container.Head.TheVariants.{Number, Digest}
@@ -28,10 +28,11 @@ use Rattle.pcc_gate.specs.ForPolicy.{IsFor}
 use Rattle.pcc_gate.specs.Passing.{AreLow, Passes}
 use Rattle.pcc_gate.specs.Weights.{lemmas_weight, proof_weight}
 use Rattle.pcc_gate.specs.declared.limits.TheConstants.{MAX_WEIGHT}
+use Rattle.gate_upgrade.specs.declared.limits.TheConstants.{OLD_VERSION}
 use Rattle.gate_upgrade.specs.Laws.{UpgradedAccepted}
-use Rattle.gate_upgrade.specs.Upgrading.{kind_numbered, with_digest}
+use Rattle.gate_upgrade.specs.Upgrading.{with_digest}
 use Rattle.gate_upgrade.specs.Upgrades.{IsUpgrade}
-use Rattle.gate_upgrade.proofs.Exactly.{numbered-kind}
+use Rattle.policy_set.proofs.EachKind.{numbered-kind}
 use Rattle.gate_upgrade.proofs.Renamed.{first-version, first-unbounded, first-lemmas, renamed-roots}
 
 -- the bytes of code in the first profile are those of the same code in the second
@@ -128,7 +129,7 @@ module _
   abbrev renamed : Contents
   renamed = with_digest (built_in u.kind) u.contents
 
-  first : u.contents.version ≡ 1
+  first : u.contents.version ≡ OLD_VERSION
   first = first-version u.contents (kind_number u.kind) u.old.contents u.number
 
   unbounded : u.contents.bound ≡ None

@@ -1,11 +1,11 @@
 -- What bytes are upgraded to is what the relation says.
-use Rattle.std.proofs.Common.{◌≡◌, ◌↔◌, ℕ, ◌+◌, ◌≤◌, ◌==◌, Bool, true, false, true≢false, nat_lt, eqb-true, if◌then◌else◌, List, length, Option, Some, None, is_some, Result, Ok, Err, refl, sym, ap, ◌∙◌, arith}
+use Rattle.std.proofs.Common.{◌≡◌, ◌↔◌, ℕ, ◌+◌, ◌≤◌, Bool, true, false, nat_lt, List, length, Option, Some, None, Result, Ok, Err, refl, sym, ap, ◌∙◌, arith}
 use Rattle.std.proofs.lemmas.Bool.{ltb-false, le-ltb}
 use Rattle.term_table.specs.Bytes.{IsBytes}
 use Rattle.term_table.specs.Steps.{◌>>=◌}
 use Rattle.policy_set.specs.declared.kind.PolicyKind.{PolicyKind}
-use Rattle.policy_set.specs.declared.kind.PolicyKind.TheVariants.{Filter, Tag, Table}
-use Rattle.policy_set.specs.Names.{kind_number}
+use Rattle.policy_set.specs.Names.{kind_number, kind_numbered}
+use Rattle.policy_set.proofs.EachKind.{numbered-kind, kind-numbered}
 use Rattle.policy_set.specs.Views.{built_in}
 use Rattle.proof_container.specs.declared.container.Head.{Head}
 use Rattle.proof_container.specs.declared.container.Head.TheVariants.{Number, Digest}
@@ -17,7 +17,7 @@ use Rattle.gate_upgrade.specs.declared.fault.UpgradeFlaw.{UpgradeFlaw}
 use Rattle.gate_upgrade.specs.declared.fault.UpgradeFlaw.TheVariants as flaw
 use Rattle.gate_upgrade.specs.declared.limits.TheConstants.{GROWTH}
 use Rattle.gate_upgrade.specs.Laws.{UpgradedExactly}
-use Rattle.gate_upgrade.specs.Upgrading.{kind_numbered, with_digest, contents_in, number_in, kind_found, size_within, upgraded_container}
+use Rattle.gate_upgrade.specs.Upgrading.{with_digest, contents_in, number_in, kind_found, size_within, upgraded_container}
 use Rattle.gate_upgrade.specs.Upgrades.{IsUpgrade}
 use Rattle.gate_upgrade.proofs.Renamed.{renamed-holds, renamed-length}
 
@@ -26,31 +26,6 @@ abbrev pub DecodesExactly : Type 0
 DecodesExactly =
     (bytes : List ℕ) (c : Contents) → IsBytes bytes
     → EncodesContents bytes c ↔ (decoded_container bytes ≡ Ok c)
-
--- ---- kinds
-
-pub numbered-kind : (kind : PolicyKind) → kind_numbered (kind_number kind) ≡ Some kind
-numbered-kind Filter = refl
-numbered-kind Tag = refl
-numbered-kind Table = refl
-
--- the number of a kind that was found
-abbrev number_or_none : Option PolicyKind → ℕ
-number_or_none None = 0
-number_or_none (Some kind) = kind_number kind
-
-pub kind-numbered : (n : ℕ) (kind : PolicyKind) → kind_numbered n ≡ Some kind → n ≡ kind_number kind
-kind-numbered n kind e = by (n == 1) refl (n == 2) refl (n == 3) refl e
-  where
-    by : (one : Bool) → (n == 1) ≡ one → (two : Bool) → (n == 2) ≡ two → (three : Bool)
-        → (n == 3) ≡ three
-        → (if one then Some Filter else if two then Some Tag else
-        if three then Some Table else None)
-        ≡ Some kind → n ≡ kind_number kind
-    by true one two second three third is = eqb-true n 1 one ∙ ap number_or_none is
-    by false one true second three third is = eqb-true n 2 second ∙ ap number_or_none is
-    by false one false second true third is = eqb-true n 3 third ∙ ap number_or_none is
-    by false one false second false third is = absurd (true≢false (sym (ap is_some is)))
 
 -- the number that was found is the head's
 pub head-numbered : (h : Head) (n : ℕ) → number_in h ≡ Ok n → h ≡ Number n

@@ -1,28 +1,32 @@
 -- The second profile has what the first has, and reads it alike.
-use Rattle.std.proofs.Common.{◌≡◌, ℕ, true, List, Ok, refl}
+use Rattle.std.proofs.Common.{◌≡◌, ℕ, true, List, Ok, refl, arith}
+use Rattle.std.proofs.lemmas.Bool.{leb-true, le-leb, ltb-true, lt-ltb}
+use Rattle.word_ops.specs.Operators.{op_number, op_count, profile_number}
+use Rattle.alpha_words.specs.MemoryOps.{memory_since}
 use Rattle.word_ops.specs.declared.Profile.TheVariants.{One, Two}
 use Rattle.alpha_words.specs.declared.insn.Insn.{Insn}
 use Rattle.alpha_words.specs.declared.insn.Format.{Format}
 use Rattle.alpha_words.specs.declared.insn.Format.TheVariants as F
 use Rattle.alpha_words.specs.Formats.{format_of}
-use Rattle.alpha_words.specs.Encoding.{has_format, has_insn, Encodes}
+use Rattle.alpha_words.specs.Encoding.{has_format, Encodes}
 use Rattle.alpha_words.specs.Decoding.{decoded}
 use Rattle.alpha_words.proofs.Words.{decoded-Encodes}
 use Rattle.alpha_cfg.specs.CodeBytes.{EncodesCode}
 
--- the second profile has each instruction
-has-format : (f : Format) → has_format Two f ≡ true
-has-format (F.Memory op ra rb disp) = refl
-has-format (F.Operate op ra rhs rc) = refl
-has-format (F.Branch cond ra disp) = refl
-has-format (F.Br disp) = refl
-has-format F.Ret = refl
-
-pub has-all : (i : Insn) → has_insn Two i ≡ true
-has-all i = has-format (format_of i)
+-- the second profile has what the first has
+has-later : (f : Format) → has_format One f ≡ true → has_format Two f ≡ true
+has-later (F.Memory op ra rb disp) h =
+    let first = leb-true (profile_number (memory_since op)) 1 h in
+    le-leb (profile_number (memory_since op)) 2 (omega (arith, first))
+has-later (F.Operate op ra rhs rc) h =
+    let first = ltb-true (op_number op) (op_count One) h in
+    lt-ltb (op_number op) (op_count Two) (omega (arith, first))
+has-later (F.Branch cond ra disp) h = refl
+has-later (F.Br disp) h = refl
+has-later F.Ret h = refl
 
 pub encodes-later : (w : ℕ) (i : Insn) → Encodes One w i → Encodes Two w i
-encodes-later w i h = (has-all i, h.1)
+encodes-later w i h = (has-later (format_of i) h.0, h.1)
 
 pub decoded-later : (w : ℕ) (i : Insn) → decoded One w ≡ Ok i → decoded Two w ≡ Ok i
 decoded-later w i e =

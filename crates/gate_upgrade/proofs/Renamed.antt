@@ -1,6 +1,6 @@
 -- The same contents with another head. Contents whose policy is named by a number are of version 1,
 -- which has no bound and no lemmas.
-use Rattle.std.proofs.Common.{◌≡◌, ◌≢◌, ℕ, ◌+◌, ◌*◌, ◌≤◌, List, [], ◌∷◌, ◌++◌, map, length, Option, Some, None, refl, ap, ◌∙◌, subst, arith}
+use Rattle.std.proofs.Common.{◌≡◌, ℕ, true, false, ◌+◌, ◌*◌, ◌≤◌, List, [], ◌∷◌, ◌++◌, map, length, Option, Some, None, refl, ap, ◌∙◌, subst, arith}
 use Rattle.std.specs.Prelude.{sum_by}
 use Rattle.std.specs.Option.{option_map}
 use Rattle.term_table.specs.Tree.{Tree, Var, Con, App, Lam, Fam, TApp, Pi, Const, Num, Lit, Calc, Fact, Deny, Lemma}
@@ -21,31 +21,24 @@ use Rattle.proof_container.specs.Decoding.{entry_size}
 use Rattle.proof_container.specs.Views.{AllTerms, IsWritable, contents_of, view_contents, Shows}
 use Rattle.proof_container.proofs.FieldLaws.{length-field_bytes}
 use Rattle.proof_container.proofs.Written.{length-encoding_of}
+use Rattle.lf_signature.specs.Laws.Signatures.{numbered-version}
+use Rattle.gate_upgrade.specs.declared.limits.TheConstants.{OLD_VERSION, NEW_VERSION}
 use Rattle.gate_upgrade.specs.Upgrading.{with_digest}
 use Rattle.pcc_gate.proofs.Digests.{digest-head}
 
--- version 2 is built, isn't the first, and bounds no steps
-two-built : IsVersion 2
+-- the new version is built
+two-built : IsVersion NEW_VERSION
 two-built = (omega arith, omega arith)
-
-pub not-first : ◌≢◌ {A = ℕ} 2 1
-not-first e = omega (arith, e)
-
-pub not-third : ◌≢◌ {A = ℕ} 2 3
-not-third e = omega (arith, e)
-
-pub not-fourth : ◌≢◌ {A = ℕ} 1 4
-not-fourth e = omega (arith, e)
 
 -- ---- what version 1 has
 
 -- contents whose policy is named by a number are of version 1
-pub first-version : (c : Contents) (n : ℕ) → IsContents c → c.head ≡ Number n → c.version ≡ 1
-first-version c n held is = (subst (λ (h : Head). IsHead c.version h) is held.head).0
+pub first-version : (c : Contents) (n : ℕ) → IsContents c → c.head ≡ Number n → c.version ≡ OLD_VERSION
+first-version c n held is = numbered-version c.version (subst (λ (h : Head). IsHead c.version h) is held.head).0
 
-none-bounded : (b : Option ℕ) → IsBoundOf 1 b → b ≡ None
+none-bounded : (b : Option ℕ) → IsBoundOf OLD_VERSION b → b ≡ None
 none-bounded None bounded = refl
-none-bounded (Some n) bounded = absurd (omega (arith, bounded.0))
+none-bounded (Some n) bounded = let wrong : false ≡ true = bounded.0 in cc
 
 -- and bound no steps
 pub first-unbounded : (c : Contents) (n : ℕ) → IsContents c → c.head ≡ Number n → c.bound ≡ None
@@ -53,10 +46,10 @@ first-unbounded c n held is =
     none-bounded c.bound
     (subst (λ (v : ℕ). IsBoundOf v c.bound) (first-version c n held is) held.bound)
 
--- only version 4 has lemmas
-pub none-there : {A : Type 0} (lemmas : List A) → AreLemmasOf 1 lemmas → lemmas ≡ []
+-- and has no lemmas
+pub none-there : {A : Type 0} (lemmas : List A) → AreLemmasOf OLD_VERSION lemmas → lemmas ≡ []
 none-there [] h = refl
-none-there (l ∷ lemmas) h = absurd (not-fourth h.0)
+none-there (l ∷ lemmas) h = let wrong : false ≡ true = h.0 in cc
 
 pub first-lemmas : (c : Contents) (n : ℕ) → IsContents c → c.head ≡ Number n → c.lemmas ≡ []
 first-lemmas c n held is =
@@ -65,16 +58,16 @@ first-lemmas c n held is =
 
 -- ---- terms of version 1
 
-const-term : (v : ℕ) (c : Const) → IsEntryTerm 1 (Con c) → IsEntryTerm v (Con c)
+const-term : (v : ℕ) (c : Const) → IsEntryTerm OLD_VERSION (Con c) → IsEntryTerm v (Con c)
 const-term v (Num n) h = tt
 const-term v (Lit w) h = tt
 const-term v (Calc o a b) h = tt
 const-term v (Fact p a b) h = tt
 const-term v (Deny p a b) h = tt
-const-term v (Lemma n) h = absurd (not-fourth h)
+const-term v (Lemma n) h = let wrong : false ≡ true = h in cc
 
 -- a term that cites no lemma may stand in a container of each version
-entry-term : (v : ℕ) (t : Tree) → IsEntryTerm 1 t → IsEntryTerm v t
+entry-term : (v : ℕ) (t : Tree) → IsEntryTerm OLD_VERSION t → IsEntryTerm v t
 entry-term v (Var n) h = tt
 entry-term v (Con c) h = const-term v c h
 entry-term v (App f a) h = (entry-term v f h.0, h.1, entry-term v a h.2)
@@ -83,11 +76,11 @@ entry-term v (Fam a) h = absurd h
 entry-term v (TApp p a) h = absurd h
 entry-term v (Pi a b) h = absurd h
 
-are-terms : (v : ℕ) (ts : List Tree) → AreTerms 1 ts → AreTerms v ts
+are-terms : (v : ℕ) (ts : List Tree) → AreTerms OLD_VERSION ts → AreTerms v ts
 are-terms v [] h = tt
 are-terms v (t ∷ ts) h = (entry-term v t h.0, h.1, are-terms v ts h.2)
 
-pub all-terms : (v : ℕ) (ts : List Tree) → AllTerms 1 ts → AllTerms v ts
+pub all-terms : (v : ℕ) (ts : List Tree) → AllTerms OLD_VERSION ts → AllTerms v ts
 all-terms v [] h = tt
 all-terms v (t ∷ ts) h = (entry-term v t h.0, all-terms v ts h.1)
 
@@ -106,17 +99,17 @@ pub renamed-holds : (policy : PolicyView) (c : Contents) (n : ℕ) → IsContent
 renamed-holds policy c n h is =
     let same : roots c ≡ roots (with_digest policy c) =
     renamed-roots policy c (first-lemmas c n h is) in
-    let terms : AreTerms 1 (roots c) =
+    let terms : AreTerms OLD_VERSION (roots c) =
     subst (λ (v : ℕ). AreTerms v (roots c)) (first-version c n h is) h.terms in
     record {
       version = two-built;
-      head = digest-head policy 2 not-first;
-      bound = not-third;
+      head = digest-head policy NEW_VERSION refl;
+      bound = refl;
       bytes = h.bytes;
       whole = h.whole;
       some = h.some;
       short = h.short;
-      terms = subst (λ (ts : List Tree). AreTerms 2 ts) same (are-terms 2 (roots c) terms);
+      terms = subst (λ (ts : List Tree). AreTerms NEW_VERSION ts) same (are-terms NEW_VERSION (roots c) terms);
       entries = subst (λ (ts : List Tree). length (entries ts) ≤ MAX_ENTRIES) same h.entries;
       invs = h.invs;
       rising = h.rising;
@@ -129,7 +122,7 @@ pub renamed-length : (policy : PolicyView) (c : Contents) (n : ℕ) → IsConten
     → length (encoding_of (with_digest policy c)) ≡ length (encoding_of c) + 28
 renamed-length policy c n held is =
     let long : length (policy_bytes (Digest (digest_of policy))) ≡ 32 =
-    (digest-head policy 2 not-first).1 in
+    (digest-head policy NEW_VERSION refl).1 in
     let unbounded : length (bound_fields c.bound) ≡ 0 =
     ap (λ (b : Option ℕ). length (bound_fields b)) (first-unbounded c n held is) in
     let few : length (policy_bytes c.head) ≡ length (field_bytes (n ∷ [])) =
@@ -164,8 +157,8 @@ renamed-length policy c n held is =
 -- ---- a view with the digest as head
 
 -- a view that names its policy by a number is of version 1
-view-first : (v : View) (n : ℕ) → IsWritable v → v.head ≡ Number n → v.version ≡ 1
-view-first v n h is = (subst (λ (x : Head). IsHead v.version x) is h.head).0
+view-first : (v : View) (n : ℕ) → IsWritable v → v.head ≡ Number n → v.version ≡ OLD_VERSION
+view-first v n h is = numbered-version v.version (subst (λ (x : Head). IsHead v.version x) is h.head).0
 
 -- what a view shows besides lemmas
 abbrev bare_roots : View → List Tree
@@ -187,12 +180,12 @@ view-roots v n h is =
 
 -- so what it shows is terms of version 2, and has no more entries
 pub view-terms : (v : View) (n : ℕ) → IsWritable v → v.head ≡ Number n
-    → AllTerms 2 (bare_roots v)
+    → AllTerms NEW_VERSION (bare_roots v)
 view-terms v n h is =
-    let first : AllTerms 1 (roots (view_contents v)) =
+    let first : AllTerms OLD_VERSION (roots (view_contents v)) =
     subst (λ (x : ℕ). AllTerms x (roots (view_contents v))) (view-first v n h is) h.terms in
-    all-terms 2 (bare_roots v)
-    (subst (λ (ts : List Tree). AllTerms 1 ts) (view-roots v n h is) first)
+    all-terms NEW_VERSION (bare_roots v)
+    (subst (λ (ts : List Tree). AllTerms OLD_VERSION ts) (view-roots v n h is) first)
 
 pub view-entries : (v : View) (n : ℕ) → IsWritable v → v.head ≡ Number n
     → length (entries (bare_roots v)) ≤ MAX_ENTRIES
@@ -203,7 +196,7 @@ view-entries v n h is =
 pub shown-renamed : (c : Container) (v : View) (policy : PolicyView) (h : Head) → Shows c v
     → h ≡ Digest (digest_of policy) → (w : Contents)
     → w ≡ record {
-      version = 2;
+      version = NEW_VERSION;
       head = h;
       bound = None;
       code = (view_contents v).code;

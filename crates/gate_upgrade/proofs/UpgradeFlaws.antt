@@ -7,24 +7,26 @@ use Rattle.word_ops.proofs.Tests.{test-sharp, flaw-exactly}
 use Rattle.term_table.specs.Bytes.{IsBytes}
 use Rattle.term_table.specs.Steps.{◌>>=◌}
 use Rattle.policy_set.specs.declared.kind.PolicyKind.{PolicyKind}
-use Rattle.policy_set.specs.Names.{kind_number}
+use Rattle.policy_set.specs.Names.{kind_number, kind_numbered}
+use Rattle.policy_set.proofs.EachKind.{numbered-kind, kind-numbered}
 use Rattle.policy_set.specs.Views.{built_in}
 use Rattle.proof_container.specs.declared.container.Head.{Head}
 use Rattle.proof_container.specs.declared.container.Head.TheVariants.{Number, Digest}
 use Rattle.proof_container.specs.declared.fault.Flaw.{Flaw}
 use Rattle.proof_container.specs.declared.limits.TheConstants.{MAX_BYTES}
-use Rattle.proof_container.specs.Versions.{IsHead}
+use Rattle.lf_signature.specs.Laws.Signatures.{numbered-version}
+use Rattle.proof_container.specs.Versions.{is_numbered, IsHead}
 use Rattle.proof_container.specs.Contents.{Contents}
 use Rattle.proof_container.specs.Encoding.{EncodesContents, encoding_of}
 use Rattle.proof_container.specs.Decoding.{Fault, decoded_container, contents_or}
 use Rattle.proof_container.specs.FieldTests.{IsFirstFault}
 use Rattle.gate_upgrade.specs.declared.fault.UpgradeFlaw.{UpgradeFlaw}
 use Rattle.gate_upgrade.specs.declared.fault.UpgradeFlaw.TheVariants as flaw
-use Rattle.gate_upgrade.specs.declared.limits.TheConstants.{GROWTH}
+use Rattle.gate_upgrade.specs.declared.limits.TheConstants.{GROWTH, OLD_VERSION}
 use Rattle.gate_upgrade.specs.Laws.{UpgradeRefused}
-use Rattle.gate_upgrade.specs.Upgrading.{kind_numbered, with_digest, number_in, kind_found, size_within, upgraded_container}
+use Rattle.gate_upgrade.specs.Upgrading.{with_digest, number_in, kind_found, size_within, upgraded_container}
 use Rattle.gate_upgrade.specs.UpgradeTests.{is_container, is_first_version, is_built_in, upgrade_tests}
-use Rattle.gate_upgrade.proofs.Exactly.{DecodesExactly, numbered-kind, kind-numbered}
+use Rattle.gate_upgrade.proofs.Exactly.{DecodesExactly}
 
 -- the fault that reading a container gives is the first of its tests that fails, by the laws of containers
 abbrev pub FaultsExactly : Type 0
@@ -91,7 +93,7 @@ module _ (faults : FaultsExactly) (nothing : FaultyNothing) (one_content : OneCo
     abbrev of_size : PolicyKind → Result (List ℕ) UpgradeFlaw
     of_size kind = size_within (length bytes + GROWTH) >>= λ size. Ok (encoding_of (with_digest (built_in kind) c))
 
-    by-size : (kind : PolicyKind) → c.version ≡ 1 → c.head ≡ Number (kind_number kind) → (b : Bool)
+    by-size : (kind : PolicyKind) → c.version ≡ OLD_VERSION → c.head ≡ Number (kind_number kind) → (b : Bool)
         → nat_lt MAX_BYTES (length bytes + GROWTH) ≡ b
         → Speaks (cond b (Err (flaw.TooBig (length bytes + GROWTH))) (Ok (length bytes + GROWTH))
         >>= λ size. Ok (encoding_of (with_digest (built_in kind) c)))
@@ -100,7 +102,7 @@ module _ (faults : FaultsExactly) (nothing : FaultyNothing) (one_content : OneCo
         inr (short, inr ((c, old), inr ((c, old, first), inr ((c, kind, old, number), inl (λ p. omega (arith, long, p), refl)))))
     by-size kind first number false e = (short, ((c, old), ((c, old, first), ((c, kind, old, number), (ltb-false _ _ e, tt)))))
 
-    by-kind : (n : ℕ) → c.version ≡ 1 → c.head ≡ Number n → (o : Option PolicyKind) → kind_numbered n ≡ o
+    by-kind : (n : ℕ) → c.version ≡ OLD_VERSION → c.head ≡ Number n → (o : Option PolicyKind) → kind_numbered n ≡ o
         → Speaks (kind_found n o >>= λ kind. of_size kind)
     by-kind n first number None none =
         inr (short, inr ((c, old), inr ((c, old, first), inl (c, n, old, number, other, refl))))
@@ -112,8 +114,11 @@ module _ (faults : FaultsExactly) (nothing : FaultyNothing) (one_content : OneCo
 
     by-head : (h : Head) → c.head ≡ h → IsHead c.version h
         → Speaks (number_in h >>= λ n. kind_found n (kind_numbered n) >>= λ kind. of_size kind)
-    by-head (Number n) is named = by-kind n named.0 is (kind_numbered n) refl
-    by-head (Digest d) is named = inr (short, inr ((c, old), inl (c, old, named.0, refl)))
+    by-head (Number n) is named = by-kind n (numbered-version c.version named.0) is (kind_numbered n) refl
+    by-head (Digest d) is named = inr (short, inr ((c, old), inl (c, old, later, refl)))
+      where
+        later : c.version ≢ OLD_VERSION
+        later e = let wrong : true ≡ false = sym (ap is_numbered e) ∙ named.0 in cc
 
   module _ (decides : DecodesExactly) (held : IsBytes bytes) where
     -- what comes behind the contents

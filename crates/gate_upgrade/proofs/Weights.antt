@@ -4,7 +4,7 @@ use Rattle.term_table.specs.Tree.{Tree, Const, Num, Lit, Calc, Fact, Deny, Lemma
 use Rattle.term_table.specs.Measures.{arguments, parameters, head_parameters, weight_of}
 use Rattle.lf_signature.specs.Typing.{Checks, lam_checks, atom_checks, Synth, var_synth, con_synth, app_synth}
 use Rattle.lf_signature.specs.Constants.{size_of, places_of, declared}
-use Rattle.lf_signature.specs.declared.WordSignature.{WordSignature}
+use Rattle.lf_signature.specs.declared.editions.WordSignature.{WordSignature}
 use Rattle.lf_signature.specs.Laws.Within.{declared-number}
 use Rattle.lf_signature.proofs.Lookup.{places-parameters}
 

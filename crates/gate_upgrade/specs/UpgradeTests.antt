@@ -11,7 +11,7 @@ use Rattle.proof_container.specs.Encoding.{EncodesContents}
 use Rattle.proof_container.specs.FieldTests.{IsFirstFault}
 use Rattle.gate_upgrade.specs.declared.fault.UpgradeFlaw.{UpgradeFlaw}
 use Rattle.gate_upgrade.specs.declared.fault.UpgradeFlaw.TheVariants as flaw
-use Rattle.gate_upgrade.specs.declared.limits.TheConstants.{GROWTH}
+use Rattle.gate_upgrade.specs.declared.limits.TheConstants.{GROWTH, OLD_VERSION}
 
 module _ (bytes : List ℕ) where
   -- the bytes encode a container, or have a first fault
@@ -24,8 +24,8 @@ module _ (bytes : List ℕ) where
   -- the container is of version 1
   abbrev pub is_first_version : TestFor UpgradeFlaw
   is_first_version = record {
-    passes = (c : Contents) × EncodesContents bytes c × (c.version ≡ 1);
-    fails = λ found. (c : Contents) × EncodesContents bytes c × (c.version ≢ 1) × (found ≡ flaw.Already);
+    passes = (c : Contents) × EncodesContents bytes c × (c.version ≡ OLD_VERSION);
+    fails = λ found. (c : Contents) × EncodesContents bytes c × (c.version ≢ OLD_VERSION) × (found ≡ flaw.Already);
   }
 
   -- the number that it names is a built-in policy's

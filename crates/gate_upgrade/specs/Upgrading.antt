@@ -1,11 +1,11 @@
 -- Containers of version 1 as containers of version 2: the digest of the policy stands in place of
 -- its number, and all else stays. The tests stand in their order, and the first that fails is the
 -- answer.
-use Rattle.std.specs.Prelude.{◌≡◌, ℕ, ◌+◌, ◌==◌, nat_lt, if◌then◌else◌, List, [], length, Option, Some, None, Result, Ok, Err}
+use Rattle.std.specs.Prelude.{◌≡◌, ℕ, ◌+◌, nat_lt, if◌then◌else◌, List, [], length, Option, Some, None, Result, Ok, Err}
 use Rattle.term_table.specs.Steps.{◌>>=◌}
 use Rattle.policy_set.specs.declared.kind.PolicyKind.{PolicyKind}
-use Rattle.policy_set.specs.declared.kind.PolicyKind.TheVariants.{Filter, Tag, Table}
 use Rattle.policy_set.specs.Views.{PolicyView, built_in}
+use Rattle.policy_set.specs.Names.{kind_numbered}
 use Rattle.policy_set.specs.Digest.{digest_of}
 use Rattle.proof_container.specs.declared.container.Head.{Head}
 use Rattle.proof_container.specs.declared.container.Head.TheVariants.{Number, Digest}
@@ -17,22 +17,14 @@ use Rattle.gate_upgrade.specs.declared.fault.UpgradeFault.{UpgradeFault}
 use Rattle.gate_upgrade.specs.declared.fault.UpgradeFault.TheVariants as fault
 use Rattle.gate_upgrade.specs.declared.fault.UpgradeFlaw.{UpgradeFlaw}
 use Rattle.gate_upgrade.specs.declared.fault.UpgradeFlaw.TheVariants as flaw
-use Rattle.gate_upgrade.specs.declared.limits.TheConstants.{GROWTH}
+use Rattle.gate_upgrade.specs.declared.limits.TheConstants.{GROWTH, NEW_VERSION}
 
 -- ---- the contents
-
--- the kind of the built-in policy of a number
-abbrev pub kind_numbered : ℕ → Option PolicyKind
-kind_numbered n =
-    if n == 1 then Some Filter else
-    if n == 2 then Some Tag else
-    if n == 3 then Some Table else
-    None
 
 -- the contents as those of version 2, with the digest of the policy as head
 abbrev pub with_digest : PolicyView → Contents → Contents
 with_digest policy c = record {
-  version = 2;
+  version = NEW_VERSION;
   head = Digest (digest_of policy);
   bound = None;
   code = c.code;

@@ -11,7 +11,7 @@ ghost use Rattle.term_table.specs.Tree.{Tree};
 ghost use Rattle.term_table.specs.Measures.{weight_of};
 ghost use Rattle.lf_signature.specs.Typing.{Checks};
 ghost use Rattle.lf_signature.specs.Constants.{size_of, op_count_of, places_of, declared};
-ghost use Rattle.lf_signature.specs.declared.WordSignature.{WordSignature};
+ghost use Rattle.lf_signature.specs.declared.editions.WordSignature.{WordSignature};
 
 /// States that a relation between two containers says what bytes are upgraded to (`exactly`), that
 /// bytes are refused with a flaw exactly if it is the first of their tests that fails (`refused`),

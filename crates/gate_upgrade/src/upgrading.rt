@@ -7,12 +7,13 @@ ghost use Rattle.proof_container.specs.declared.container.Head.TheVariants.{Dige
 ghost use Rattle.proof_container.specs.declared.container.View.{View};
 ghost use Rattle.proof_container.specs.declared.limits.TheConstants.{MAX_BYTES};
 ghost use Rattle.proof_container.specs.Views.{contents_of, IsWritable, Shows};
-ghost use Rattle.gate_upgrade.specs.Upgrading.{kind_numbered, contents_in};
+ghost use Rattle.policy_set.specs.Names.{kind_numbered};
+ghost use Rattle.gate_upgrade.specs.Upgrading.{contents_in};
 ghost use Rattle.gate_upgrade.specs.Upgrading.{number_in, kind_found, size_within};
 ghost use Rattle.gate_upgrade.specs.Upgrading.{upgraded_container, IsUpgraded};
 
 use crate::fault::{UpgradeFault, UpgradeFlaw};
-use crate::limits::GROWTH;
+use crate::limits::{GROWTH, NEW_VERSION};
 use policy_set::{Policy, PolicyKind, digest};
 use proof_container::{Container, Head, MAX_BYTES, Malformed, View, read, write};
 use std::alloc::{AllocError, Global};
@@ -46,23 +47,11 @@ fn number_in(head: Head) -> Result<u32, UpgradeFlaw>
     }
 }
 
-/// The kind of the built-in policy of a number, if there is one.
-fn kind_numbered(number: u32) -> Option<PolicyKind>
-    ensures { result ≡ kind_numbered number }
-{
-    match number {
-        1 => Some(PolicyKind::Filter),
-        2 => Some(PolicyKind::Tag),
-        3 => Some(PolicyKind::Table),
-        _ => None,
-    }
-}
-
 /// The kind of the built-in policy of a number. Errors: `OtherPolicy`.
 fn kind_found(number: u32) -> Result<PolicyKind, UpgradeFlaw>
     ensures { result ≡ kind_found number (kind_numbered number) }
 {
-    match kind_numbered(number) {
+    match PolicyKind::numbered(number) {
         Some(kind) => Ok(kind),
         None => Err(UpgradeFlaw::OtherPolicy(number)),
     }
@@ -107,7 +96,7 @@ pub fn upgraded(alloc: Global, bytes: &[u8]) -> Result<Vec<u8>, UpgradeFault>
     let head = head_of(alloc, kind)?;
     let shown = container.view();
     let view = View {
-        version: 2,
+        version: NEW_VERSION,
         head,
         bound: None,
         code: shown.code,

@@ -2,8 +2,8 @@
 use Rattle.std.specs.Prelude.{◌≡◌, ℕ, ◌+◌, ◌<◌, ◌≤◌, List, length, slice_get, Some, ℤ}
 use Rattle.word_ops.specs.declared.Op.TheVariants as words
 use Rattle.alpha_words.specs.declared.insn.Rhs.TheVariants.{Reg, Lit}
-use Rattle.alpha_words.specs.declared.insn.Cond.{Cond}
-use Rattle.alpha_words.specs.declared.insn.Cond.TheVariants as conds
+use Rattle.alpha_words.specs.declared.conditions.Cond.{Cond}
+use Rattle.alpha_words.specs.declared.conditions.Cond.TheVariants as conds
 use Rattle.alpha_words.specs.declared.insn.Insn.{Insn}
 use Rattle.alpha_words.specs.declared.insn.Insn.TheVariants as insns
 use Rattle.alpha_cfg.specs.declared.code.TheConstants.{MAX_WORDS}

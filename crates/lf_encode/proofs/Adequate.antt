@@ -2,7 +2,8 @@
 use Rattle.word_ops.specs.declared.Op.{Op}
 use Rattle.word_ops.specs.declared.Rel.{Rel}
 use Rattle.word_ops.specs.declared.Rel.TheVariants.{Eq, Ult, Ule, Slt, Sle}
-use Rattle.word_ops.specs.Operators.{operators, op_constant}
+use Rattle.word_ops.specs.declared.Profile.TheVariants.{One}
+use Rattle.word_ops.specs.Operators.{operators, op_count, op_constant}
 use Rattle.lf_signature.specs.Numbers.{rel_of, rel_constant}
 use Rattle.lf_signature.specs.Terms.{exp, app1, app2}
 use Rattle.std.proofs.Common.{◌≡◌, ℕ, zero, suc, ◌^◌, Bool, true, false, cond, ◌&&◌, ◌==◌, Option, Some, None, List, [], ◌∷◌, ◌++◌, map, take, drop, eqb-true, refl, sym, ◌∙◌, ap, subst, ltb-true}
@@ -11,14 +12,13 @@ use Rattle.term_table.specs.Subst.{Simple, Base, Arrow, erase}
 use Rattle.formula_tree.specs.Formulas.{Exp, EVar, ELit, EOp, ESel, MemExp, MVar, MUpd, Form, FTrue, FFalse, FRel, FRd, FWr, FAnd, FOr, FImp, FAll, FAllm}
 use Rattle.lf_terms.specs.Encoding.{exp_encoding, mem_encoding, form_encoding}
 use Rattle.formula_tree.specs.Scope.{VarSort, sort_at, OfWord, OfMem, OfProof, IsOverExp, IsOverMem, IsOver}
-use Rattle.lf_signature.specs.Constants.{is_word}
+use Rattle.lf_signature.specs.Constants.{is_word, Longest}
 use Rattle.lf_signature.specs.Simply.{SChecks, lam_schecks, atom_schecks, SSynth, var_ssynth, con_ssynth, app_ssynth}
 use Rattle.term_table.proofs.Options.{some_injective, map_some, bind_some}
 use Rattle.std.proofs.Common.{◌+◌, not, arith}
 use Rattle.word_ops.specs.Words.{test_of}
 use Rattle.lf_signature.specs.Rules.{rule_type}
 use Rattle.lf_signature.specs.Constants.{constant_types, the_rules, op_in, calc_type, fact_type, deny_type, declared}
-use Rattle.lf_signature.specs.declared.WordSignature.TheVariants.{Sigma3}
 use Rattle.lf_signature.specs.Known.{IsKnownType, listed, lemma, IsKnownSignature}
 use Rattle.lf_signature.specs.Laws.Within.{made_number, Found, made, ruled, declared-number}
 use Rattle.lf_signature.specs.Simply.{simply, erased}
@@ -28,6 +28,7 @@ use Rattle.lf_terms.specs.Encoding.{var_types}
 use Rattle.formula_tree.specs.Operators.{UsesExp, UsesMem, Uses}
 use Rattle.lf_signature.specs.Known.{HasOp}
 use Rattle.lf_signature.specs.Typing.{Checks}
+use Rattle.lf_signature.specs.declared.numbers.TheConstants.{FIRST_RULE}
 
 -- a fact among types of a higher level
 pub record Lifted (A : Type 0) : Type 1 where
@@ -151,7 +152,7 @@ module _ (sig : Const → Option Tree) where
 
   all_known : Knowns 0 constant_types
   unfolding constant_types
-  all_known = ops_known (take 11 operators) 0 (drop 11 constant_types) refl (
+  all_known = ops_known (take (op_count One) operators) 0 (drop (op_count One) constant_types) refl (
       (record { out = λ has G a h b k. record { form = ESel h.form k.form; over = (h.over, k.over); uses = (h.uses, k.uses); is = λ i. app2 11 (h.is i) (k.is i) } }) ⊕
       (record { out = λ has G a h b k v l. record { form = MUpd h.form k.form l.form; over = (h.over, k.over, l.over); uses = (h.uses, k.uses, l.uses); is = λ i. App (app2 12 (h.is i) (k.is i)) (l.is i) } }) ⊕
       (record { out = λ has G. record { form = FTrue; over = tt; uses = tt; is = refl } }) ⊕
@@ -168,7 +169,7 @@ module _ (sig : Const → Option Tree) where
       join_known FImp 24 (record { over = λ A B G h k. (h, k); uses = λ A B h k. (h, k); is = λ A B. refl }) ⊕
       (record { out = λ has G a h. record { form = FAll h.2.form; over = h.2.over; uses = h.2.uses; is = ap (λ z. app1 25 (Lam z)) h.2.is ∙ ap (app1 25) h.1 } }) ⊕
       (record { out = λ has G a h. record { form = FAllm h.2.form; over = h.2.over; uses = h.2.uses; is = ap (λ z. app1 26 (Lam z)) h.2.is ∙ ap (app1 26) h.1 } }) ⊕
-      ops_known (drop 11 operators) 27 [] refl none)
+      ops_known (drop (op_count One) operators) FIRST_RULE [] refl none)
 
   find_known : {k : ℕ} {l : List Tree} → Knowns k l → (n : ℕ) (A : Tree) → at l n ≡ Some A → Known (made_number (k + n)) A
   find_known none n A w = cc
@@ -179,8 +180,8 @@ module _ (sig : Const → Option Tree) where
   unfolding the_rules
   all_high = refl
 
-  const_known : (c : Const) (A : Tree) → sig c ≡ Some A → declared Sigma3 c ≡ Some A → (G : List VarSort) → OfR (erase A) G (Con c)
-  const_known (Num n) A has q G = number_known (declared-number Sigma3 n A q).1
+  const_known : (c : Const) (A : Tree) → sig c ≡ Some A → declared Longest c ≡ Some A → (G : List VarSort) → OfR (erase A) G (Con c)
+  const_known (Num n) A has q G = number_known (declared-number Longest n A q).1
     where
       number_known : Found n A → OfR (erase A) G (Con (Num n))
       number_known (made i p e w) = let z : 0 + i ≡ i = omega arith in (subst (λ k. Known k A) (ap made_number z ∙ e) (find_known all_known i A w)).out has G
@@ -189,7 +190,7 @@ module _ (sig : Const → Option Tree) where
       let h = cond_is (is_word w) (Some exp) A q in
       subst (λ z. OfR (erase z) G (Con (Lit w))) (some_injective h.1) (record { form = ELit w; over = ltb-true w (2 ^ 64) h.0; uses = tt; is = refl })
   const_known (Calc o a b) A has q G =
-      let p = bind_some (op_in Sigma3 o) (λ p. cond (is_word a && is_word b) (Some (calc_type p a b)) None) A q in
+      let p = bind_some (op_in Longest o) (λ p. cond (is_word a && is_word b) (Some (calc_type p a b)) None) A q in
       let h = cond_is (is_word a && is_word b) (Some (calc_type p.0 a b)) A p.2 in
       subst (λ z. OfR (erase z) G (Con (Calc o a b))) (some_injective h.1) tt
   const_known (Fact r a b) A has q G =

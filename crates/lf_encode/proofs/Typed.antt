@@ -2,7 +2,7 @@
 use Rattle.word_ops.specs.Operators.{op_constant}
 use Rattle.lf_signature.specs.Numbers.{rel_constant}
 use Rattle.lf_signature.specs.Terms.{app1, app2}
-use Rattle.std.proofs.Common.{◌≡◌, ℕ, zero, suc, ◌+◌, ◌^◌, ◌<◌, ◌≤◌, Bool, true, cond, ◌&&◌, ltb, nat_lt, if◌then◌else◌, ◌-◌, Option, Some, None, List, [], ◌∷◌, length, refl, sym, ◌∙◌, ap, subst, lt-ltb, arith, one-add}
+use Rattle.std.proofs.Common.{◌≡◌, ℕ, zero, suc, ◌+◌, ◌^◌, ◌<◌, ◌≤◌, Bool, true, cond, ◌&&◌, ltb, Option, Some, None, List, [], ◌∷◌, length, refl, sym, ◌∙◌, ap, subst, lt-ltb, arith, one-add}
 use Rattle.term_table.specs.Tree.{Tree, Fam, Pi, Const, Num, at, shift, raise, fits}
 use Rattle.term_table.specs.Subst.{in_fam, in_pi}
 use Rattle.formula_tree.specs.Formulas.{Exp, EReg, ELeft, EVar, ELit, EOp, ESel, MemExp, MMem, MVar, MUpd, Form, FTrue, FFalse, FRel, FRd, FWr, FAnd, FOr, FImp, FAll, FAllm, shift_exp, shift_mem}
@@ -11,13 +11,14 @@ use Rattle.formula_tree.specs.Scope.{VarSort, sort_at, OfWord, OfMem, IsOverExp,
 use Rattle.lf_signature.specs.Typing.{Checks, lam_checks, atom_checks, var_synth, con_synth, app_synth}
 use Rattle.word_ops.specs.declared.Rel.{Rel}
 use Rattle.word_ops.specs.declared.Rel.TheVariants.{Eq, Ult, Ule, Slt, Sle}
-use Rattle.lf_signature.specs.declared.WordSignature.TheVariants.{Sigma1}
-use Rattle.lf_signature.specs.declared.tables.Place.TheVariants.{Made, ByRule}
-use Rattle.lf_signature.specs.Constants.{constant_types, place_of, type_in}
+use Rattle.lf_signature.specs.declared.editions.WordSignature.TheVariants.{Sigma1}
+use Rattle.lf_signature.specs.Constants.{constant_types}
+use Rattle.lf_signature.specs.Laws.Within.{declared-made}
 use Rattle.lf_signature.specs.Known.{IsKnownSignature}
 use Rattle.formula_tree.specs.Operators.{UsesExp, UsesMem, Uses}
 use Rattle.lf_signature.specs.Known.{HasOp}
 use Rattle.lf_signature.specs.Laws.Numbered.{declared-rel}
+use Rattle.lf_signature.specs.declared.numbers.TheConstants.{EQ, FIRST_RULE, SLE, SLT, ULE, ULT}
 use Rattle.lf_terms.specs.Encoding.{var_types}
 use Rattle.formula_tree.specs.Sizes.{binders}
 use Rattle.lf_terms.proofs.Encoded.{at-word, at-mem, shift-mem_encoding}
@@ -81,15 +82,15 @@ mutual
 
 -- over any signature whose constants are those of word arithmetic
 module _ (sig : Const → Option Tree) (known : IsKnownSignature sig) where
-  basic : (n : ℕ) → n < 27 → sig (Num n) ≡ at constant_types n
-  basic n h = known.basic n h ∙ ap (λ b. cond b (type_in (place_of n)) None) (lt-ltb n 88 (omega (arith, h))) ∙ ap type_in (ap (λ b. if b then Made n else if nat_lt n 88 then ByRule (n - 27) else if nat_lt n 96 then Made (n - 61) else ByRule (n - 35)) (lt-ltb n 27 h))
+  basic : (n : ℕ) → n < FIRST_RULE → sig (Num n) ≡ at constant_types n
+  basic n h = known.basic n h ∙ declared-made Sigma1 n h
 
   rel_basic : (r : Rel) → sig (Num (rel_constant r)) ≡ Some (Pi (Fam 0) (Pi (Fam 0) (Fam 2)))
-  rel_basic Eq = known.basic 15 (omega arith) ∙ declared-rel Sigma1 Eq
-  rel_basic Ult = known.basic 16 (omega arith) ∙ declared-rel Sigma1 Ult
-  rel_basic Ule = known.basic 17 (omega arith) ∙ declared-rel Sigma1 Ule
-  rel_basic Slt = known.basic 18 (omega arith) ∙ declared-rel Sigma1 Slt
-  rel_basic Sle = known.basic 19 (omega arith) ∙ declared-rel Sigma1 Sle
+  rel_basic Eq = known.basic EQ (omega arith) ∙ declared-rel Sigma1 Eq
+  rel_basic Ult = known.basic ULT (omega arith) ∙ declared-rel Sigma1 Ult
+  rel_basic Ule = known.basic ULE (omega arith) ∙ declared-rel Sigma1 Ule
+  rel_basic Slt = known.basic SLT (omega arith) ∙ declared-rel Sigma1 Slt
+  rel_basic Sle = known.basic SLE (omega arith) ∙ declared-rel Sigma1 Sle
 
   two : {Γ : List Tree} {a b : Tree} {s u t : ℕ} (n : ℕ) → sig (Num n) ≡ Some (Pi (Fam s) (Pi (Fam u) (Fam t))) → Checks sig Γ a (Fam s) → Checks sig Γ b (Fam u) → fits (shift 1 0 a) ≡ true →
       Checks sig Γ (app2 n a b) (Fam t)

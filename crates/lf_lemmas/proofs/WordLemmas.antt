@@ -9,7 +9,7 @@ use Rattle.lf_signature.specs.Numbers.{rel_of}
 use Rattle.lf_signature.specs.Terms.{exp}
 use Rattle.lf_signature.specs.Rules.{rule_type}
 use Rattle.lf_signature.specs.Constants.{constant_types, the_rules, op_in, is_word, calc_type, fact_type, deny_type, declared}
-use Rattle.lf_signature.specs.declared.WordSignature.{WordSignature}
+use Rattle.lf_signature.specs.declared.editions.WordSignature.{WordSignature}
 use Rattle.lf_signature.specs.Laws.Booleans.{cond_is, every, every-at}
 use Rattle.lf_signature.specs.Laws.Within.{Found, made, ruled, declared-number}
 use Rattle.lf_signature.specs.Laws.WellFormed.{declared_formed}

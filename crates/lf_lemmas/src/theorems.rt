@@ -7,7 +7,7 @@ ghost use Rattle.term_table.specs.Table.{IsSmall};
 ghost use Rattle.lf_signature.specs.Terms.{form};
 ghost use Rattle.lf_signature.specs.Typing.{Checks};
 ghost use Rattle.lf_signature.specs.Constants.{declared};
-ghost use Rattle.lf_signature.specs.declared.WordSignature.{WordSignature};
+ghost use Rattle.lf_signature.specs.declared.editions.WordSignature.{WordSignature};
 ghost use Rattle.lf_lemmas.specs.Lemmas.{formulas_of, proofs_of, with_lemmas, AreFormulas};
 ghost use Rattle.lf_lemmas.specs.WrittenOut.{cites_below, inlined, written_out};
 ghost use Rattle.lf_lemmas.specs.Checking.{LemmasCheck, AllProve, CiteBackwards, CiteNone, AllFit};

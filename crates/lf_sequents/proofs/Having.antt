@@ -3,8 +3,7 @@ use Rattle.std.proofs.Common.{◌≡◌, ℕ, cond, Option, Some, None, is_some,
 use Rattle.term_table.specs.Tree.{Tree, Const, Num}
 use Rattle.term_table.specs.Table.{TableView}
 use Rattle.lf_signature.specs.Rules.{Rule, rule_type}
-use Rattle.lf_signature.specs.declared.WordSignature.TheVariants.{Sigma3}
-use Rattle.lf_signature.specs.Constants.{rule_at, declared}
+use Rattle.lf_signature.specs.Constants.{rule_at, declared, Longest}
 use Rattle.lf_signature.specs.Known.{IsKnownSignature}
 use Rattle.lf_signature.specs.Laws.Within.{declared-number, known-longest}
 use Rattle.lf_signature.proofs.Lookup.{declared-rule}
@@ -21,8 +20,8 @@ has_rule sig known n r is = go (sig (Num n)) refl is
     go : (o : Option Tree) → sig (Num n) ≡ o → cond (is_some o) (rule_at n) None ≡ Some r → (rule_at n ≡ Some r) × (sig (Num n) ≡ Some (rule_type r))
     go None h e = cc
     go (Some a) h e =
-        let d : declared Sigma3 (Num n) ≡ Some a = known-longest (Num n) a (λ l. l) (known.within (Num n) a h) in
-        (e, h ∙ sym d ∙ declared-rule Sigma3 n r (declared-number Sigma3 n a d).0 e)
+        let d : declared Longest (Num n) ≡ Some a = known-longest (Num n) a (λ l. l) (known.within (Num n) a h) in
+        (e, h ∙ sym d ∙ declared-rule Longest n r (declared-number Longest n a d).0 e)
 
 -- parameters or premises haven't the rule's form, or the conclusion's term doesn't check
 pub not_derived : (sig : Const → Option Tree) (t u : TableView) (hyps params : List ℕ) (n : ℕ) (r : Rule) (l : List Sequent)

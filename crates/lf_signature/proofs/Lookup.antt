@@ -7,9 +7,9 @@ use Rattle.lf_signature.specs.Rules.{Rule, rule_type}
 use Rattle.lf_signature.specs.Constants.{the_rules, place_of, rule_in, type_in, size_of, places_of, rule_at, parameters_of, declared}
 use Rattle.lf_signature.specs.declared.tables.Place.{Place}
 use Rattle.lf_signature.specs.declared.tables.Place.TheVariants.{Made, ByRule}
-use Rattle.lf_signature.specs.declared.WordSignature.{WordSignature}
-use Rattle.lf_signature.specs.declared.WordSignature.TheVariants.{Sigma1, Sigma2, Sigma3}
+use Rattle.lf_signature.specs.declared.editions.WordSignature.{WordSignature}
 use Rattle.lf_signature.specs.Laws.Within.{declared-below}
+use Rattle.lf_signature.specs.Laws.Signatures.{each_signature}
 use Rattle.lf_signature.specs.Laws.Booleans.{every, every-at}
 
 pub at-map : {A B : Type 0} (f : A → B) (l : List A) (n : ℕ) → at (map f l) n ≡ option_map f (at l n)
@@ -98,22 +98,13 @@ get_or_none [] n d e = refl
 get_or_none (b ∷ l) zero d e = cc
 get_or_none (b ∷ l) (suc n) d e = get_or_none l n d e
 
-pub at_past : {A : Type 0} (l : List A) (n : ℕ) → length l ≤ n → at l n ≡ None
-at_past [] n h = refl
-at_past (a ∷ l) zero h = absurd (omega arith)
-at_past (a ∷ l) (suc n) h = at_past l n (omega arith)
-
 -- the counts of each signature, and that there are as many as it has constants
 each_place : (s : WordSignature) → every (λ n k. k == parameters_of n) (places_of s) ≡ true
 unfolding the_rules
-each_place Sigma1 = refl
-each_place Sigma2 = refl
-each_place Sigma3 = refl
+each_place = each_signature (λ s. every (λ n k. k == parameters_of n) (places_of s)) refl
 
 places_end : (s : WordSignature) → length (places_of s) ≡ size_of s
-places_end Sigma1 = refl
-places_end Sigma2 = refl
-places_end Sigma3 = refl
+places_end s = eqb-true (length (places_of s)) (size_of s) (each_signature (λ z. length (places_of z) == size_of z) refl s)
 
 -- the counts that weights go by are the numbers of parameters
 pub places-parameters : (s : WordSignature) (n : ℕ) → n < size_of s → get_or (places_of s) n 0 ≡ parameters_of n

@@ -2,14 +2,15 @@
 use Rattle.std.proofs.Common.{◌≡◌, ◌∙◌, ℕ, zero, suc, ◌<◌, Option, Some, None, List, [], ◌∷◌, cond, length, map, refl, sym, ap, option_map, arith, inl, inr}
 use Rattle.std.proofs.lemmas.Bool.{le-ltb, cases_lt}
 use Rattle.term_table.specs.Tree.{Tree, at, Num}
-use Rattle.term_table.specs.Measures.{sigma3_places}
 use Rattle.term_table.proofs.Options.{some_injective}
-use Rattle.lf_signature.specs.declared.WordSignature.TheVariants.{Sigma1, Sigma3}
-use Rattle.lf_signature.specs.Constants.{constant_types, the_rules, place_of, type_in, declared}
+use Rattle.lf_signature.specs.declared.editions.WordSignature.TheVariants.{Sigma1}
+use Rattle.lf_signature.specs.declared.numbers.TheConstants.{COUNT}
+use Rattle.lf_signature.specs.Constants.{constant_types, the_rules, place_of, type_in, Longest, parameter_counts, declared}
 use Rattle.lf_signature.specs.Outside.{numbered_rows, evaluated_rows, AreDeclared}
 use Rattle.lf_signature.specs.Worked.{synth_rows, check_rows, type_rows, AreVerdicts}
 use Rattle.lf_signature.specs.Laws.Within.{declared-below}
-use Rattle.lf_signature.proofs.Lookup.{at-map, at_past}
+use Rattle.lf_signature.specs.Laws.Booleans.{at_past}
+use Rattle.lf_signature.proofs.Lookup.{at-map}
 
 -- what a function gives for the first numbers
 abbrev upto : {A : Type 0} → (ℕ → A) → ℕ → List A
@@ -21,11 +22,11 @@ at-upto f zero n h = absurd (omega arith)
 at-upto f (suc k) zero h = refl
 at-upto f (suc k) (suc n) h = at-upto (λ m. f (suc m)) k n (omega arith)
 
-types_listed : upto (λ n. type_in (place_of n)) 105 ≡ map (λ r. Some r.1) numbered_rows
+types_listed : upto (λ n. type_in (place_of n)) COUNT ≡ map (λ r. Some r.1) numbered_rows
 unfolding constant_types the_rules numbered_rows
 types_listed = refl
 
-rows_end : length numbered_rows ≡ 105
+rows_end : length numbered_rows ≡ COUNT
 unfolding numbered_rows
 rows_end = refl
 
@@ -33,18 +34,18 @@ row_type : (f : Option Tree) (o : Option (ℕ × Tree)) → Some f ≡ option_ma
 row_type f (Some r) e = some_injective e
 row_type f None e = cc
 
-pub declared-numbered : (n : ℕ) → declared Sigma3 (Num n) ≡ option_map (λ r. r.1) (at numbered_rows n)
-declared-numbered n = elim (cases_lt n 105) [
+pub declared-numbered : (n : ℕ) → declared Longest (Num n) ≡ option_map (λ r. r.1) (at numbered_rows n)
+declared-numbered n = elim (cases_lt n COUNT) [
   | inl h ↦
-      declared-below Sigma3 n h
+      declared-below Longest n h
       ∙ row_type (type_in (place_of n)) (at numbered_rows n)
-      (sym (at-upto (λ k. type_in (place_of k)) 105 n h) ∙ ap (λ l. at l n) types_listed ∙ at-map (λ r. Some r.1) numbered_rows n)
+      (sym (at-upto (λ k. type_in (place_of k)) COUNT n h) ∙ ap (λ l. at l n) types_listed ∙ at-map (λ r. Some r.1) numbered_rows n)
   | inr h ↦
-      ap (λ b. cond b (type_in (place_of n)) None) (le-ltb n 105 h)
+      ap (λ b. cond b (type_in (place_of n)) None) (le-ltb n COUNT h)
       ∙ ap (option_map (λ r. r.1)) (sym (at_past numbered_rows n (omega (arith, rows_end, h))))
 ]
 
-pub places_listed : sigma3_places ≡ map (λ r. r.0) numbered_rows
+pub places_listed : parameter_counts ≡ map (λ r. r.0) numbered_rows
 unfolding numbered_rows
 places_listed = refl
 

@@ -1,8 +1,7 @@
 -- The signature of word arithmetic: the declared type of each constant.
 -- Rules as constants: Harper, Honsell and Plotkin, A Framework for Defining Logics, JACM 1993. A logic of words and memories for code: Necula, Proof-Carrying Code, POPL 1997.
-use Rattle.std.specs.Prelude.{ℕ, ◌-◌, ◌^◌, Bool, ◌&&◌, not, nat_lt, if◌then◌else◌, Option, Some, None, List, [], ◌∷◌, ◌++◌, map, length}
+use Rattle.std.specs.Prelude.{ℕ, ◌-◌, ◌^◌, Bool, true, false, ◌&&◌, not, nat_lt, if◌then◌else◌, Option, Some, None, List, [], ◌∷◌, ◌++◌, map, length, take, find}
 use Rattle.std.specs.Option.{option_map, option_map_or}
-use Rattle.term_table.specs.Measures.{sigma1_places, sigma2_places, sigma3_places}
 use Rattle.term_table.specs.Tree.{Tree, Pi, Const, Num, Lit, Calc, Fact, Deny, Lemma, at}
 use Rattle.term_table.specs.Subst.{bind}
 use Rattle.word_ops.specs.declared.Op.{Op}
@@ -10,17 +9,20 @@ use Rattle.word_ops.specs.declared.Op.TheVariants.{Add, Sub, Band, Bis, Sll, Srl
 use Rattle.word_ops.specs.declared.Rel.{Rel}
 use Rattle.word_ops.specs.declared.Rel.TheVariants.{Eq, Ult, Ule, Slt, Sle}
 use Rattle.word_ops.specs.Words.{word_of, test_of}
-use Rattle.word_ops.specs.Operators.{op_of}
+use Rattle.word_ops.specs.declared.Profile.{Profile}
+use Rattle.word_ops.specs.declared.Profile.TheVariants.{One, Two}
+use Rattle.word_ops.specs.Operators.{op_of, op_count}
 use Rattle.lf_signature.specs.Numbers.{rel_of}
-use Rattle.lf_signature.specs.declared.numbers.TheConstants.{FIRST_RULE, XOR, LATER_RULE}
+use Rattle.lf_signature.specs.declared.numbers.TheConstants.{FIRST_RULE, FIRST_RULES, XOR, LATER_RULE, SUB_LO, SYMBOLS, COUNT}
 use Rattle.lf_signature.specs.declared.tables.Place.{Place}
 use Rattle.lf_signature.specs.declared.tables.Place.TheVariants.{Made, ByRule}
-use Rattle.lf_signature.specs.declared.WordSignature.{WordSignature}
-use Rattle.lf_signature.specs.declared.WordSignature.TheVariants.{Sigma1, Sigma2, Sigma3}
+use Rattle.lf_signature.specs.declared.tables.Stretch.{Stretch}
+use Rattle.lf_signature.specs.declared.editions.WordSignature.{WordSignature}
+use Rattle.lf_signature.specs.declared.editions.WordSignature.TheVariants.{Sigma1, Sigma2, Sigma3}
 use Rattle.lf_signature.specs.Terms.{exp, mem, form, pf, lit, op_term, rel_term, not_term}
 use Rattle.lf_signature.specs.Rules.{Sort, OfExp, OfMem, OfForm, OfExpForm, OfMemForm, SExp, SPar, SOwn, SLit, SOp, SSel, MPar, MOwn, SUpd, SForm, STrue, SFalse, FPar, FOf, FOfMem, SRel, SAnd, SOr, SImp, SAll, SAllm, Premise, Plain, Under, ForExp, ForMem, Rule, rule_type}
 
--- The constants 0 to 26, of which formulas are made.
+-- The symbols, which formulas are made of.
 unfoldable pub constant_types : List Tree
 constant_types =
     -- 0 to 10: add, sub, band, bis, sll, srl, cmpeq, cmplt, cmple, cmpult, cmpule
@@ -316,13 +318,30 @@ the_rules =
     -- 83 to 87 cmp_le1  a b ; |- (ule (o a b) 1)
     map cmp_yes pairs ++ (map cmp_no pairs ++ (map cmp_le1 pairs ++ later_rules))
 
--- where a numbered constant stands: among those of which formulas are made, or among the rules
+-- symbols, which formulas are made of, up to a number; so many rules are before them
+abbrev symbols : ℕ → ℕ → Stretch
+symbols end others = record { end = end; are_rules = false; others = others }
+
+-- rules up to a number; so many symbols are before them
+abbrev rules : ℕ → ℕ → Stretch
+rules end others = record { end = end; are_rules = true; others = others }
+
+-- the numbered constants, stretch by stretch
+abbrev pub layout : List Stretch
+layout = symbols FIRST_RULE 0 ∷ rules XOR FIRST_RULE ∷ symbols LATER_RULE FIRST_RULES ∷ rules COUNT SYMBOLS ∷ []
+
+-- the stretch of a number
+abbrev pub stretch_of : ℕ → Option Stretch
+stretch_of n = find (λ (s : Stretch). nat_lt n s.end) layout
+
+-- the place of a number in its stretch; past the last there are no more rules
+abbrev pub place_in : Option Stretch → ℕ → Place
+place_in None n = ByRule n
+place_in (Some s) n = if s.are_rules then ByRule (n - s.others) else Made (n - s.others)
+
+-- where a numbered constant stands: among the symbols, or among the rules
 abbrev pub place_of : ℕ → Place
-place_of n =
-    if nat_lt n FIRST_RULE then Made n else
-    if nat_lt n XOR then ByRule (n - FIRST_RULE) else
-    if nat_lt n LATER_RULE then Made (n - 61) else
-    ByRule (n - 35)
+place_of n = place_in (stretch_of n) n
 
 -- the rule at a place
 abbrev pub rule_in : Place → Option Rule
@@ -342,23 +361,50 @@ rule_at n = rule_in (place_of n)
 abbrev pub parameters_of : ℕ → ℕ
 parameters_of n = option_map_or (λ r. length r.parameters) (rule_at n) 0
 
+-- all signatures of word arithmetic, each a part of the next
+abbrev pub signatures : List WordSignature
+signatures = Sigma1 ∷ Sigma2 ∷ Sigma3 ∷ []
+
+-- the longest, of which each signature is a prefix (`declared-longest`); theorems on all of them are stated over it
+abbrev pub Longest : WordSignature
+Longest = Sigma3
+
 -- how many numbered constants a signature has: it has the first ones
 abbrev pub size_of : WordSignature → ℕ
-size_of Sigma1 = 88
-size_of Sigma2 = 104
-size_of Sigma3 = 105
+size_of Sigma1 = XOR
+size_of Sigma2 = SUB_LO
+size_of Sigma3 = COUNT
 
--- how many parameters each of these has, as weights go by them
+-- how many parameters each numbered constant has, as weights go by them
+abbrev pub parameter_counts : List ℕ
+parameter_counts =
+    0 ∷ 0 ∷ 0 ∷ 0 ∷ 0 ∷ 0 ∷ 0 ∷ 0 ∷ 0 ∷ 0 ∷
+    0 ∷ 0 ∷ 0 ∷ 0 ∷ 0 ∷ 0 ∷ 0 ∷ 0 ∷ 0 ∷ 0 ∷
+    0 ∷ 0 ∷ 0 ∷ 0 ∷ 0 ∷ 0 ∷ 0 ∷ 0 ∷ 1 ∷ 2 ∷
+    2 ∷ 2 ∷ 2 ∷ 2 ∷ 3 ∷ 2 ∷ 2 ∷ 1 ∷ 1 ∷ 2 ∷
+    1 ∷ 2 ∷ 1 ∷ 3 ∷ 3 ∷ 4 ∷ 2 ∷ 3 ∷ 1 ∷ 2 ∷
+    2 ∷ 2 ∷ 3 ∷ 1 ∷ 2 ∷ 1 ∷ 1 ∷ 2 ∷ 1 ∷ 3 ∷
+    3 ∷ 1 ∷ 1 ∷ 1 ∷ 3 ∷ 2 ∷ 3 ∷ 3 ∷ 2 ∷ 2 ∷
+    2 ∷ 1 ∷ 4 ∷ 2 ∷ 2 ∷ 2 ∷ 2 ∷ 2 ∷ 2 ∷ 2 ∷
+    2 ∷ 2 ∷ 2 ∷ 2 ∷ 2 ∷ 2 ∷ 2 ∷ 2 ∷
+    -- those of the later operators and rules
+    0 ∷ 0 ∷ 0 ∷ 0 ∷ 0 ∷ 0 ∷ 0 ∷ 0 ∷
+    1 ∷ 2 ∷ 2 ∷ 2 ∷ 2 ∷ 2 ∷ 2 ∷ 2 ∷
+    3 ∷ []
+
+-- the same of a signature's
 abbrev pub places_of : WordSignature → List ℕ
-places_of Sigma1 = sigma1_places
-places_of Sigma2 = sigma2_places
-places_of Sigma3 = sigma3_places
+places_of s = take (size_of s) parameter_counts
+
+-- the profile whose operators a signature has
+abbrev pub operators_of : WordSignature → Profile
+operators_of Sigma1 = One
+operators_of Sigma2 = Two
+operators_of Sigma3 = Two
 
 -- how many operators: it has the first ones
 abbrev pub op_count_of : WordSignature → ℕ
-op_count_of Sigma1 = 11
-op_count_of Sigma2 = 19
-op_count_of Sigma3 = 19
+op_count_of s = op_count (operators_of s)
 
 -- the operator that evaluations name by a number
 abbrev pub op_in : WordSignature → ℕ → Option Op

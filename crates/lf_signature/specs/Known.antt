@@ -5,9 +5,9 @@ use Rattle.word_ops.specs.declared.Op.{Op}
 use Rattle.word_ops.specs.Operators.{op_constant}
 use Rattle.lf_signature.specs.Terms.{exp, form, pf}
 use Rattle.lf_signature.specs.Typing.{Checks}
-use Rattle.lf_signature.specs.declared.WordSignature.TheVariants.{Sigma1, Sigma3}
+use Rattle.lf_signature.specs.declared.editions.WordSignature.TheVariants.{Sigma1}
 use Rattle.lf_signature.specs.declared.numbers.TheConstants.{FIRST_RULE}
-use Rattle.lf_signature.specs.Constants.{declared}
+use Rattle.lf_signature.specs.Constants.{Longest, declared}
 
 -- the constant is a lemma
 abbrev pub IsLemma : Const → Type 0
@@ -18,11 +18,11 @@ IsLemma _ = ⊥
 pub record IsProofType (type : Tree) : Type 0 where
   pub formula : Tree
   pub is : pf formula ≡ type
-  pub formed : Checks (declared Sigma3) [] formula form
+  pub formed : Checks (declared Longest) [] formula form
 
 -- the type that the longest signature gives the constant, or, of a lemma, that of the proofs of a formula
 pub data IsKnownType (c : Const) (type : Tree) : Type 0 where
-  listed : declared Sigma3 c ≡ Some type → IsKnownType c type
+  listed : declared Longest c ≡ Some type → IsKnownType c type
   lemma : IsLemma c → IsProofType type → IsKnownType c type
 
 -- Words and the constants of formulas have the types that each signature of word arithmetic gives them. Every other constant

@@ -5,6 +5,7 @@ pub mod Decide
 pub mod Terms
 pub mod Rules
 pub mod Constants
+pub mod Editions
 pub mod Known
 pub mod Order
 pub mod Near

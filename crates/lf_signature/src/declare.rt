@@ -5,8 +5,7 @@ ghost use Rattle.term_table.specs.Table.{Extends, Stands};
 ghost use Rattle.term_table.specs.Tree.{Num, Lit, Calc, Fact, Deny};
 ghost use Rattle.lf_signature.specs.Terms.{lit, rel_term, form};
 ghost use Rattle.lf_signature.specs.Nodes.{IsIdOf, type_at};
-ghost use Rattle.lf_signature.specs.Constants.{type_in, declared};
-ghost use Rattle.lf_signature.specs.declared.WordSignature.TheVariants.{Sigma3};
+ghost use Rattle.lf_signature.specs.Constants.{Longest, type_in, declared};
 
 use crate::WordSignature;
 use crate::build::{constant_id, rule_id};
@@ -83,7 +82,7 @@ fn evaluation(
 
 /// The type of the fact that a relation of two words holds.
 fn fact(table: &mut Table, rel: u32, a: u64, b: u64) -> Result<Option<Id>, AllocError>
-    ensures tree { IfOk result (Stands table.new (declared Sigma3 (Fact rel a b))) }
+    ensures tree { IfOk result (Stands table.new (declared Longest (Fact rel a b))) }
     ensures extends { Extends table.old table.new }
 {
     let Some(rel) = rel_of(rel) else {
@@ -98,7 +97,7 @@ fn fact(table: &mut Table, rel: u32, a: u64, b: u64) -> Result<Option<Id>, Alloc
 
 /// The type of the denial of a relation of two words, which doesn't hold.
 fn denial(table: &mut Table, rel: u32, a: u64, b: u64) -> Result<Option<Id>, AllocError>
-    ensures tree { IfOk result (Stands table.new (declared Sigma3 (Deny rel a b))) }
+    ensures tree { IfOk result (Stands table.new (declared Longest (Deny rel a b))) }
     ensures extends { Extends table.old table.new }
 {
     let Some(rel) = rel_of(rel) else {

@@ -14,6 +14,7 @@
 
 mod build;
 mod declare;
+mod editions;
 pub mod numbers;
 pub mod schema;
 mod tables;
@@ -22,25 +23,25 @@ mod theorems;
 
 ghost use Rattle.std.specs.Prelude.{◌≡◌, Option, IfOk, refl};
 ghost use Rattle.term_table.specs.Tree.{Tree, Const};
-ghost use Rattle.term_table.specs.Table.{TableView, counts_of, Extends, Stands};
+ghost use Rattle.term_table.specs.Table.{TableView, Extends, Stands};
 ghost use Rattle.lf_signature.specs.Nodes.{type_at};
 ghost use Rattle.lf_signature.specs.Order.{IsSignature};
-ghost use Rattle.lf_signature.specs.Constants.{size_of, op_count_of, places_of, op_in, declared};
+ghost use Rattle.lf_signature.specs.Constants.{declared};
 ghost use Rattle.lf_signature.specs.Known.{IsKnownSignature};
 ghost use Rattle.lf_signature.specs.Laws.Within.{declared_known};
 ghost use Rattle.lf_signature.specs.Laws.WellFormed.{declared_formed};
 
-pub use WordSignature::{Sigma1, Sigma2, Sigma3};
 use declare::word_type;
+pub use editions::WordSignature::{Sigma1, Sigma2, Sigma3};
+pub use editions::{EDITIONS, Edition, LONGEST, MAX_VERSION, WordSignature, edition_of};
 pub use numbers::{rel_constant, rel_number, rel_of, rel_of_constant};
 use std::alloc::AllocError;
 pub use tables::rule_at;
-use term_table::{Id, Node, Places, Table};
+use term_table::{Id, Node, Table};
 pub use terms::{app1, app2, app3, pf};
 pub use theorems::{
     declared_rows, near_laws, places_laws, signature_laws, simple_laws, typing_laws,
 };
-use word_ops::{Op, op_of};
 
 /// A signature: it gives constants their types. It may store ids of a table, and its types may name
 /// their trees, so each call requires a table that holds these ids.
@@ -79,65 +80,6 @@ pub trait Known: Signature {
     // the longest signature of word arithmetic, or is a lemma, a proof of a formula.
     ghost known: { (s : Self) (t : TableView) → Self.Signature.holds s t →
         IsKnownSignature (Self.Signature.declares s t) };
-}
-
-/// A signature of word arithmetic: the first numbered constants of the table, the 64-bit words, and
-/// the evaluations of operators and relations at two words. It stores no ids.
-#[derive(Clone, Copy, Debug, PartialEq, Eq)]
-pub enum WordSignature {
-    /// Constants 0 to 87, operators 0 to 10.
-    Sigma1,
-    /// Constants 0 to 103, operators 0 to 18.
-    Sigma2,
-    /// Constants 0 to 104, operators 0 to 18.
-    Sigma3,
-}
-
-impl WordSignature {
-    /// Returns how many numbered constants there are.
-    pub fn count(self) -> u32
-        ensures { result ≡ size_of self }
-    {
-        match self {
-            WordSignature::Sigma1 => 88,
-            WordSignature::Sigma2 => 104,
-            WordSignature::Sigma3 => 105,
-        }
-    }
-
-    /// Returns how many parameters each numbered constant has; weights go by these counts.
-    pub fn places(self) -> Places
-        ensures { counts_of result ≡ places_of self }
-    {
-        match self {
-            WordSignature::Sigma1 => Places::sigma1(),
-            WordSignature::Sigma2 => Places::sigma2(),
-            WordSignature::Sigma3 => Places::sigma3(),
-        }
-    }
-
-    /// How many operators there are.
-    fn op_count(self) -> u32
-        ensures { result ≡ op_count_of self }
-    {
-        match self {
-            WordSignature::Sigma1 => 11,
-            WordSignature::Sigma2 => 19,
-            WordSignature::Sigma3 => 19,
-        }
-    }
-
-    /// Returns the operator that evaluations name by `number`: None if the signature has no such
-    /// operator.
-    pub fn op(self, number: u32) -> Option<Op>
-        ensures { result ≡ op_in self number }
-    {
-        if number < self.op_count() {
-            op_of(number)
-        } else {
-            None
-        }
-    }
 }
 
 impl Signature for WordSignature {

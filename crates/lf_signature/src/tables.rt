@@ -1,12 +1,14 @@
-//! The types of the constants 0 to 104, in their order.
+//! The types of the numbered constants, in their order, and where each stands.
 
 ghost use Rattle.std.specs.Prelude.{◌≡◌, map, take, drop};
 ghost use Rattle.std.specs.Option.{option_map};
 ghost use Rattle.term_table.specs.Tree.{at};
 ghost use Rattle.lf_signature.specs.Schemas.{constant_type, rule_of};
-ghost use Rattle.lf_signature.specs.Constants.{constant_types, the_rules, place_of, rule_at};
+ghost use Rattle.lf_signature.specs.Constants.{constant_types, the_rules, parameter_counts};
+ghost use Rattle.lf_signature.specs.Constants.{stretch_of, place_of, rule_at};
+ghost use Rattle.lf_signature.specs.declared.numbers.TheConstants.{FIRST_RULES};
 
-use crate::numbers::{EXP, FIRST_RULE, FORM, LATER_RULE, MEM, XOR};
+use crate::numbers::{COUNT, EXP, FIRST_RULE, FIRST_RULES, FORM, LATER_RULE, MEM, SYMBOLS, XOR};
 use crate::schema::Connective::{And, Imp, Or};
 use crate::schema::Exp::{Apply, Own, Sel, Word};
 use crate::schema::Form::{All, Allm, False, Holds, Join, Of, OfMem, True};
@@ -67,7 +69,7 @@ const R: Form = Form::Par(2);
 /// The greatest word.
 const MAX: Exp = Word(u64::MAX);
 
-static CONSTANTS: [Constant; 35] = [
+static CONSTANTS: [Constant; SYMBOLS as usize] = [
     // 0 add
     Constant {
         arguments: WORDS2,
@@ -763,36 +765,92 @@ static LATER: [Rule; 9] = [
     },
 ];
 
-/// Returns the rules 96 to 104: the later operators, and a lower bound of a difference.
+/// Returns the rules from 96 on: the later operators, and a lower bound of a difference.
 pub fn later() -> &'static [Rule]
-    ensures { map rule_of result.now ≡ drop 61 the_rules }
+    ensures { map rule_of result.now ≡ drop FIRST_RULES the_rules }
 {
     &LATER
+}
+
+/// How many of its first arguments are parameters, for each numbered constant.
+static PARAMETERS: [u8; COUNT as usize] = [
+    0, 0, 0, 0, 0, 0, 0, 0, 0, 0, 0, 0, 0, 0, 0, 0, 0, 0, 0, 0, 0, 0, 0, 0, 0, 0, 0, 0, 1, 2, 2, 2,
+    2, 2, 3, 2, 2, 1, 1, 2, 1, 2, 1, 3, 3, 4, 2, 3, 1, 2, 2, 2, 3, 1, 2, 1, 1, 2, 1, 3, 3, 1, 1, 1,
+    3, 2, 3, 3, 2, 2, 2, 1, 4, 2, 2, 2, 2, 2, 2, 2, 2, 2, 2, 2, 2, 2, 2, 2, 0, 0, 0, 0, 0, 0, 0, 0,
+    1, 2, 2, 2, 2, 2, 2, 2, 3,
+];
+
+/// Returns how many parameters each numbered constant has; symbols have none.
+pub fn parameter_counts() -> &'static [u8]
+    ensures { result.now ≡ parameter_counts }
+{
+    &PARAMETERS
 }
 
 /// The table that has a numbered constant, and its index there.
 #[derive(Clone, Copy)]
 pub enum Place {
-    /// The constants that formulas are made of.
+    /// The symbols, which formulas are made of.
     Made(u32),
     /// The rules.
     ByRule(u32),
+}
+
+/// A stretch of numbered constants: symbols, which formulas are made of, or rules.
+#[derive(Clone, Copy)]
+pub struct Stretch {
+    /// The number after its last.
+    pub end: u32,
+    /// Whether they are rules.
+    pub are_rules: bool,
+    /// How many constants of the other sort stand before them.
+    pub others: u32,
+}
+
+/// The numbered constants, stretch by stretch.
+const LAYOUT: [Stretch; 4] = [
+    Stretch {
+        end: FIRST_RULE,
+        are_rules: false,
+        others: 0,
+    },
+    Stretch {
+        end: XOR,
+        are_rules: true,
+        others: FIRST_RULE,
+    },
+    Stretch {
+        end: LATER_RULE,
+        are_rules: false,
+        others: FIRST_RULES,
+    },
+    Stretch {
+        end: COUNT,
+        are_rules: true,
+        others: SYMBOLS,
+    },
+];
+
+/// Returns the stretch of the constant with this number, or None if no constant has it.
+fn stretch_of(number: u32) -> Option<Stretch>
+    ensures { result ≡ stretch_of number }
+{
+    LAYOUT.iter().copied().find(|stretch| number < stretch.end)
 }
 
 /// Returns the place of the constant with this number.
 pub fn place_of(number: u32) -> Place
     ensures { result ≡ place_of number }
 {
-    if number < FIRST_RULE {
-        return Place::Made(number);
+    let Some(stretch) = stretch_of(number) else {
+        return Place::ByRule(number);
+    };
+    let index = number.saturating_sub(stretch.others);
+    if stretch.are_rules {
+        Place::ByRule(index)
+    } else {
+        Place::Made(index)
     }
-    if number < XOR {
-        return Place::ByRule(number - FIRST_RULE);
-    }
-    if number < LATER_RULE {
-        return Place::Made(number - 61);
-    }
-    Place::ByRule(number - 35)
 }
 
 /// The entry of a part of the rules.
@@ -813,12 +871,12 @@ pub fn rule_in(index: u32) -> Option<&'static Rule>
         19..=31 => entry(arithmetic(), index - 19),
         32..=45 => entry(order(), index - 32),
         46..=60 => entry(comparisons(), index - 46),
-        _ => entry(later(), index - 61),
+        _ => entry(later(), index - FIRST_RULES as usize),
     }
 }
 
 /// Returns the rule of the constant with this number: None if formulas are made of the constant,
-/// and past 104.
+/// and past the last.
 pub fn rule_at(number: u32) -> Option<&'static Rule>
     ensures { option_map (λ r. rule_of r.now) result ≡ rule_at number }
 {

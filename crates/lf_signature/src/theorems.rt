@@ -8,7 +8,6 @@ ghost use Rattle.word_ops.specs.declared.Rel.{Rel};
 ghost use Rattle.term_table.specs.Tree.{Tree, Const, Num, at};
 ghost use Rattle.term_table.specs.Subst.{erase};
 ghost use Rattle.term_table.specs.Scope.{is_over};
-ghost use Rattle.term_table.specs.Measures.{sigma3_places};
 ghost use Rattle.word_ops.specs.Operators.{op_of, op_number, op_of_constant, op_constant};
 ghost use Rattle.lf_signature.specs.Numbers.{rel_of, rel_number, rel_of_constant, rel_constant};
 ghost use Rattle.lf_signature.specs.Typing.{Checks, Synth, Kind, HasKind, IsType};
@@ -16,11 +15,11 @@ ghost use Rattle.lf_signature.specs.Simply.{simply, erased, SChecks, SSynth, STy
 ghost use Rattle.lf_signature.specs.Decide.{checks_of, synth_of, kind_of, is_type_of};
 ghost use Rattle.lf_signature.specs.Near.{AgreeOnNearest};
 ghost use Rattle.lf_signature.specs.Rules.{Rule, rule_type};
-ghost use Rattle.lf_signature.specs.Constants.{size_of, op_count_of, places_of, rule_at};
-ghost use Rattle.lf_signature.specs.Constants.{parameters_of, declared};
+ghost use Rattle.lf_signature.specs.Constants.{Longest, size_of, op_count_of, places_of, rule_at};
+ghost use Rattle.lf_signature.specs.Constants.{parameters_of, parameter_counts, declared};
 ghost use Rattle.lf_signature.specs.Known.{IsKnownSignature};
-ghost use Rattle.lf_signature.specs.declared.WordSignature.{WordSignature};
-ghost use Rattle.lf_signature.specs.declared.WordSignature.TheVariants.{Sigma1, Sigma3};
+ghost use Rattle.lf_signature.specs.declared.editions.WordSignature.{WordSignature};
+ghost use Rattle.lf_signature.specs.declared.editions.WordSignature.TheVariants.{Sigma1};
 ghost use Rattle.lf_signature.specs.Outside.{numbered_rows, evaluated_rows, AreDeclared};
 ghost use Rattle.lf_signature.specs.Worked.{AreVerdicts};
 ghost use Rattle.lf_signature.specs.Order.{IsSignature};
@@ -94,13 +93,13 @@ pub fn signature_laws()
 {}
 
 /// States that the declared types are those that a second, independent implementation writes out:
-/// of every number, none past 104, with how many parameters its constant has; and of worked
+/// of every number, none past the last, with how many parameters its constant has; and of worked
 /// evaluations at words. Worked terms and types have over the signature the verdicts that they have
 /// by hand.
 pub fn declared_rows()
     ensures numbered { (n : ℕ) →
-        declared Sigma3 (Num n) ≡ option_map (λ r. r.1) (at numbered_rows n) }
-    ensures places { sigma3_places ≡ map (λ r. r.0) numbered_rows }
+        declared Longest (Num n) ≡ option_map (λ r. r.1) (at numbered_rows n) }
+    ensures places { parameter_counts ≡ map (λ r. r.0) numbered_rows }
     ensures evaluated { AreDeclared (declared Sigma1) evaluated_rows }
     ensures verdicts { AreVerdicts (declared Sigma1) }
 {}

@@ -6,7 +6,7 @@ use Rattle.word_ops.specs.declared.Rel.{Rel}
 use Rattle.word_ops.specs.declared.Rel.TheVariants.{Eq, Ult, Ule, Slt, Sle}
 use Rattle.lf_signature.specs.Rules.{Sort, OfExp, OfMem, OfForm, OfExpForm, OfMemForm, SExp, SPar, SOwn, SLit, SOp, SSel, MPar, MOwn, SUpd, SForm, STrue, SFalse, FPar, FOf, FOfMem, SRel, SAnd, SOr, SImp, SAll, SAllm, Premise, Plain, Under, ForExp, ForMem, Rule}
 use Rattle.lf_signature.specs.Constants.{rule_at}
-use Rattle.lf_terms.specs.declared.numbers.TheConstants.{ADD_AL, ADD_ASSOC, ADD_COMM, ADD_LE, ADD_ZERO, ALLM_E, ALLM_I, ALL_E, ALL_I, AND_ASSOC, AND_COMM, AND_I, AND_L, AND_LE, AND_R, AND_ZERO, BIC_DEF, BIC_LE, BIS_ZERO, BIS_ZERO_L, CMP_LE1, CMP_NO, CMP_YES, EM, EQ_REFL, EQ_SUB, EXTB_LE, EXTL_LE, EXTW_LE, FF_E, IMP_E, IMP_I, LE_ANTI, LE_LT, LT_IRR, LT_LE, LT_PRED, MAX_LE, NOT_LT, OR_E, OR_L, OR_R, S4_DEF, S8_DEF, SEL_OTHER, SEL_SAME, SLL_AL, SLL_MONO, SRL_MONO, SUB_ADD, SUB_LO, SUB_NEG, TT_I, ULE_REFL, ULE_TRANS, ULT_ULE, XOR_SELF, ZERO_LE}
+use Rattle.lf_signature.specs.declared.numbers.TheConstants.{ADD_AL, ADD_ASSOC, ADD_COMM, ADD_LE, ADD_ZERO, ALLM_E, ALLM_I, ALL_E, ALL_I, AND_ASSOC, AND_COMM, AND_I, AND_L, AND_LE, AND_R, AND_ZERO, BIC_DEF, BIC_LE, BIS_ZERO, BIS_ZERO_L, CMP_LE1, CMP_NO, CMP_YES, EM, EQ_REFL, EQ_SUB, EXTB_LE, EXTL_LE, EXTW_LE, FF_E, IMP_E, IMP_I, LE_ANTI, LE_LT, LT_IRR, LT_LE, LT_PRED, MAX_LE, NOT_LT, OR_E, OR_L, OR_R, S4_DEF, S8_DEF, SEL_OTHER, SEL_SAME, SLL_AL, SLL_MONO, SRL_MONO, SUB_ADD, SUB_LO, SUB_NEG, TT_I, ULE_REFL, ULE_TRANS, ULT_ULE, XOR_SELF, ZERO_LE}
 
 -- a rule, in the order of the notation
 abbrev rule : List Sort → List Premise → SForm → Rule

@@ -6,6 +6,7 @@ use Rattle.word_ops.specs.declared.Rel.{Rel}
 use Rattle.word_ops.specs.declared.Rel.TheVariants.{Eq}
 use Rattle.word_ops.specs.Operators.{op_number}
 use Rattle.lf_signature.specs.Numbers.{rel_number}
+use Rattle.lf_signature.specs.declared.numbers.TheConstants.{ALLM_I, ALL_E, ALL_I, AND_I, AND_L, AND_R, EQ_REFL, EQ_SUB, FF_E, IMP_E, IMP_I, OR_L, OR_R, TT_I}
 use Rattle.formula_tree.specs.Formulas.{Exp, EVar, MemExp, Form, FRel, shift_exp}
 use Rattle.lf_terms.specs.Encoding.{exp_encoding, mem_encoding, form_encoding}
 
@@ -36,59 +37,59 @@ rule_proof n args proofs = apps (apps (Con (Num n)) (args_encoding args)) proofs
 
 -- truth
 abbrev pub tt_i : Tree
-tt_i = rule_proof 27 [] []
+tt_i = rule_proof TT_I [] []
 
 -- A by p of ff
 abbrev pub ff_e : Form → Tree → Tree
-ff_e A p = rule_proof 28 (AForm A ∷ []) (p ∷ [])
+ff_e A p = rule_proof FF_E (AForm A ∷ []) (p ∷ [])
 
 -- (and A B) by p of A and q of B
 abbrev pub and_i : Form → Form → Tree → Tree → Tree
-and_i A B p q = rule_proof 29 (AForm A ∷ AForm B ∷ []) (p ∷ q ∷ [])
+and_i A B p q = rule_proof AND_I (AForm A ∷ AForm B ∷ []) (p ∷ q ∷ [])
 
 -- A by p of (and A B)
 abbrev pub and_l : Form → Form → Tree → Tree
-and_l A B p = rule_proof 30 (AForm A ∷ AForm B ∷ []) (p ∷ [])
+and_l A B p = rule_proof AND_L (AForm A ∷ AForm B ∷ []) (p ∷ [])
 
 -- B by p of (and A B)
 abbrev pub and_r : Form → Form → Tree → Tree
-and_r A B p = rule_proof 31 (AForm A ∷ AForm B ∷ []) (p ∷ [])
+and_r A B p = rule_proof AND_R (AForm A ∷ AForm B ∷ []) (p ∷ [])
 
 -- (or A B) by p of A
 abbrev pub or_l : Form → Form → Tree → Tree
-or_l A B p = rule_proof 32 (AForm A ∷ AForm B ∷ []) (p ∷ [])
+or_l A B p = rule_proof OR_L (AForm A ∷ AForm B ∷ []) (p ∷ [])
 
 -- (or A B) by p of B
 abbrev pub or_r : Form → Form → Tree → Tree
-or_r A B p = rule_proof 33 (AForm A ∷ AForm B ∷ []) (p ∷ [])
+or_r A B p = rule_proof OR_R (AForm A ∷ AForm B ∷ []) (p ∷ [])
 
 -- p proves B under a hypothesis A, which is variable 0 there
 abbrev pub imp_i : Form → Form → Tree → Tree
-imp_i A B p = rule_proof 35 (AForm A ∷ AForm B ∷ []) (Lam p ∷ [])
+imp_i A B p = rule_proof IMP_I (AForm A ∷ AForm B ∷ []) (Lam p ∷ [])
 
 -- B by p of (imp A B) and q of A
 abbrev pub imp_e : Form → Form → Tree → Tree → Tree
-imp_e A B p q = rule_proof 36 (AForm A ∷ AForm B ∷ []) (p ∷ q ∷ [])
+imp_e A B p q = rule_proof IMP_E (AForm A ∷ AForm B ∷ []) (p ∷ q ∷ [])
 
 -- p proves A for the variable 0
 abbrev pub all_i : Form → Tree → Tree
-all_i A p = rule_proof 38 (AAll A ∷ []) (Lam p ∷ [])
+all_i A p = rule_proof ALL_I (AAll A ∷ []) (Lam p ∷ [])
 
 -- A at e by p of (all A)
 abbrev pub all_e : Form → Exp → Tree → Tree
-all_e A e p = rule_proof 39 (AAll A ∷ AExp e ∷ []) (p ∷ [])
+all_e A e p = rule_proof ALL_E (AAll A ∷ AExp e ∷ []) (p ∷ [])
 
 -- the same for memories
 abbrev pub allm_i : Form → Tree → Tree
-allm_i A p = rule_proof 40 (AAllm A ∷ []) (Lam p ∷ [])
+allm_i A p = rule_proof ALLM_I (AAllm A ∷ []) (Lam p ∷ [])
 
 -- (eq a a)
 abbrev pub eq_refl : Exp → Tree
-eq_refl a = rule_proof 42 (AExp a ∷ []) []
+eq_refl a = rule_proof EQ_REFL (AExp a ∷ []) []
 
 -- from a to b by p in the formula A, whose variable 0 is the place
 abbrev pub move : Form → Exp → Exp → Tree → Tree → Tree
-move A a b p q = rule_proof 43 (AAll A ∷ AExp a ∷ AExp b ∷ []) (p ∷ q ∷ [])
+move A a b p q = rule_proof EQ_SUB (AAll A ∷ AExp a ∷ AExp b ∷ []) (p ∷ q ∷ [])
 
 -- the expression under one more binder
 abbrev pub up : Exp → Exp

@@ -1,5 +1,5 @@
 -- The declared type of each constant is true of its value; so the signature of word arithmetic is sound.
-use Rattle.std.proofs.Common.{◌≡◌, ℕ, ◌-◌, ◌^◌, ◌<◌, ◌≤◌, Bool, true, false, cond, if◌then◌else◌, nat_lt, ◌&&◌, not, Option, Some, None, List, [], ◌∷◌, ◌++◌, map, length, refl, sym, ◌∙◌, ap, subst, eq-eqb, true≢false, arith, inl, inr, suc, zero, take, drop}
+use Rattle.std.proofs.Common.{◌≡◌, ℕ, ◌^◌, ◌<◌, ◌≤◌, Bool, true, false, cond, ◌&&◌, not, Option, Some, None, List, [], ◌∷◌, ◌++◌, map, refl, sym, ◌∙◌, ap, subst, eq-eqb, true≢false, arith, inl, inr, suc, zero, take, drop}
 use Rattle.std.proofs.lemmas.Bool.{ltb-true, le-ltb, cases_lt}
 use Rattle.word_ops.specs.declared.Op.{Op}
 use Rattle.word_ops.specs.declared.Rel.{Rel}
@@ -7,25 +7,26 @@ use Rattle.word_ops.specs.declared.Rel.TheVariants.{Eq, Ult, Ule, Slt, Sle}
 use Rattle.word_ops.specs.Words.{word_of, test_of}
 use Rattle.word_ops.specs.Memory.{Memory, IsMemory}
 use Rattle.word_ops.specs.Rights.{Rights, IsRights, allowed}
-use Rattle.word_ops.proofs.Bounds.{word_of-below}
+use Rattle.word_ops.proofs.EachOp.{word_of-below}
 use Rattle.word_ops.proofs.Memories.{IsMemory-write, read-below}
 use Rattle.term_table.specs.Tree.{Tree, Fam, Pi, Const, Num, Lit, Calc, Fact, Deny, Lemma, at}
 use Rattle.term_table.specs.Subst.{erase}
 use Rattle.term_table.proofs.Options.{bind_some, some_injective}
 use Rattle.formula_tree.specs.Formulas.{FRel, FImp, FFalse, EOp, ELit}
-use Rattle.word_ops.specs.Operators.{operators}
+use Rattle.word_ops.specs.declared.Profile.TheVariants.{One}
+use Rattle.word_ops.specs.Operators.{operators, op_count}
 use Rattle.lf_signature.specs.Numbers.{rel_of}
 use Rattle.lf_signature.specs.Terms.{exp, pf, falsity}
 use Rattle.lf_signature.specs.Typing.{Checks}
 use Rattle.lf_signature.specs.Order.{IsSignature}
 use Rattle.lf_signature.specs.Rules.{Rule, rule_type}
-use Rattle.lf_signature.specs.Constants.{constant_types, the_rules, rule_at, place_of, op_in, is_word, calc_type, fact_type, deny_type, declared, rule_in, type_in}
+use Rattle.lf_signature.specs.Constants.{constant_types, the_rules, rule_at, place_of, op_in, is_word, calc_type, fact_type, deny_type, declared, rule_in, type_in, Longest}
 use Rattle.lf_signature.specs.Laws.Booleans.{both, cond_is, every, every-at}
-use Rattle.lf_signature.proofs.Lookup.{rule_found, at_past}
-use Rattle.lf_signature.specs.declared.tables.Place.TheVariants.{Made, ByRule}
-use Rattle.lf_signature.specs.declared.WordSignature.TheVariants.{Sigma3}
+use Rattle.lf_signature.proofs.Lookup.{rule_found}
+use Rattle.lf_signature.specs.declared.tables.Place.TheVariants.{ByRule}
 use Rattle.lf_signature.specs.Known.{IsLemma, IsProofType}
-use Rattle.lf_signature.specs.Laws.Within.{Found, made, ruled, declared-number, declared-below, declared_known}
+use Rattle.lf_signature.specs.Laws.Within.{place-past, type-past, Found, made, ruled, declared-number, declared-below, declared_known}
+use Rattle.lf_signature.specs.declared.numbers.TheConstants.{COUNT}
 use Rattle.lf_encode.specs.Encoding.{form_encoding}
 use Rattle.lf_truth.specs.Validity.{IsSoundSignature, IsTrueType, IsBeyond, IsGivenType, listed, valid, proved, AreGivenTypes}
 use Rattle.lf_encode.proofs.Named.{form_encoded}
@@ -92,7 +93,7 @@ module _ (R : Rights) (sig : Const → Option Tree) where
   all_constants : AreTrueOf (values R) constant_types
   unfolding constant_types
   all_constants =
-      ops_true (take 11 operators) (
+      ops_true (take (op_count One) operators) (
       -- sel, upd
       (λ ρ. (_, refl, λ m hm a ha. word_means _ (read-below m.memory a.word hm.1.out))) ⊗
       (λ ρ. (_, refl, λ m hm a ha v hv. (refl, record { out = IsMemory-write m.memory a.word v.word hm.1.out ha.1.out hv.1.out }))) ⊗
@@ -115,7 +116,7 @@ module _ (R : Rights) (sig : Const → Option Tree) where
       (λ ρ. (_, refl, λ g hg. record { out = stable_all ℕ (λ w. w < 2 ^ 64) (λ w. (g (word_value w)).prop) (λ w h. (hg (word_value w) (word_means w h)).out) })) ⊗
       (λ ρ. (_, refl, λ g hg. record { out = stable_all Memory IsMemory (λ m. (g (memory_value m)).prop) (λ m h. (hg (memory_value m) (refl, record { out = h })).out) })) ⊗
       -- the later operators
-      ops_true (drop 11 operators) end)
+      ops_true (drop (op_count One) operators) end)
 
   find_constant : {l : List AnyValue} {m : List Tree} → AreTrueOf l m → (n : ℕ) (d : AnyValue) (A : Tree) → at m n ≡ Some A → IsTrueOf (value_in l d n) A
   find_constant end n d A q = cc
@@ -156,14 +157,14 @@ deny_true r x y p q h = record {
 }
 
 -- as they are declared
-pub declared_calc : (o x y : ℕ) (A : Tree) → declared Sigma3 (Calc o x y) ≡ Some A → IsTrueType A
+pub declared_calc : (o x y : ℕ) (A : Tree) → declared Longest (Calc o x y) ≡ Some A → IsTrueType A
 declared_calc o x y A q =
-    let p = bind_some (op_in Sigma3 o) (λ p. cond (is_word x && is_word y) (Some (calc_type p x y)) None) A q in
+    let p = bind_some (op_in Longest o) (λ p. cond (is_word x && is_word y) (Some (calc_type p x y)) None) A q in
     let h = cond_is (is_word x && is_word y) (Some (calc_type p.0 x y)) A p.2 in
     let w = both _ _ h.0 in
     subst (λ z. IsTrueType z) (some_injective h.1) (calc_true p.0 x y (ltb-true x (2 ^ 64) w.0) (ltb-true y (2 ^ 64) w.1))
 
-pub declared_fact : (r x y : ℕ) (A : Tree) → declared Sigma3 (Fact r x y) ≡ Some A → IsTrueType A
+pub declared_fact : (r x y : ℕ) (A : Tree) → declared Longest (Fact r x y) ≡ Some A → IsTrueType A
 declared_fact r x y A q =
     let p = bind_some (rel_of r) (λ p. cond ((is_word x && is_word y) && test_of p x y) (Some (fact_type p x y)) None) A q in
     let h = cond_is ((is_word x && is_word y) && test_of p.0 x y) (Some (fact_type p.0 x y)) A p.2 in
@@ -171,7 +172,7 @@ declared_fact r x y A q =
     let w = both _ _ t.0 in
     subst (λ z. IsTrueType z) (some_injective h.1) (fact_true p.0 x y (ltb-true x (2 ^ 64) w.0) (ltb-true y (2 ^ 64) w.1) t.1)
 
-pub declared_deny : (r x y : ℕ) (A : Tree) → declared Sigma3 (Deny r x y) ≡ Some A → IsTrueType A
+pub declared_deny : (r x y : ℕ) (A : Tree) → declared Longest (Deny r x y) ≡ Some A → IsTrueType A
 declared_deny r x y A q =
     let p = bind_some (rel_of r) (λ p. cond ((is_word x && is_word y) && not (test_of p x y)) (Some (deny_type p x y)) None) A q in
     let h = cond_is ((is_word x && is_word y) && not (test_of p.0 x y)) (Some (deny_type p.0 x y)) A p.2 in
@@ -181,16 +182,9 @@ declared_deny r x y A q =
 
 -- ---- the model
 
--- past the later operators there are rules alone
-place_of-past : (n : ℕ) → 96 ≤ n → place_of n ≡ ByRule (n - 35)
-place_of-past n h =
-    ap (λ b. if b then Made n else if nat_lt n 88 then ByRule (n - 27) else if nat_lt n 96 then Made (n - 61) else ByRule (n - 35)) (le-ltb n 27 (omega (arith, h)))
-    ∙ ap (λ b. if b then ByRule (n - 27) else if nat_lt n 96 then Made (n - 61) else ByRule (n - 35)) (le-ltb n 88 (omega (arith, h)))
-    ∙ ap (λ b. if b then Made (n - 61) else ByRule (n - 35)) (le-ltb n 96 h)
-
 -- a type of word arithmetic's own, or that of the proofs of a valid formula
 data IsModelled (c : Const) (type : Tree) : Type 0 where
-  own : declared Sigma3 c ≡ Some type → IsModelled c type
+  own : declared Longest c ≡ Some type → IsModelled c type
   true_proof : IsBeyond c → IsTrueType type → IsModelled c type
 
 -- each type of the signature is such a type
@@ -216,8 +210,8 @@ module _ (sig : Const → Option Tree) (given : AreModelled sig) (R : Rights) (r
       proof_true (Num n) A (sym (ap (value_of (values R) (of_type (sig (Num n)))) p)) q
       (subst (λ z. (ρ : List AnyValue) → Means (meaning R sig) z (erase z) ρ (default (erase z))) k (rule_holds R sig n r w))
 
-  listed_true : (c : Const) (A : Tree) → sig c ≡ Some A → declared Sigma3 c ≡ Some A → IsTrueOf R sig (meaning R sig c) A
-  listed_true (Num n) A q e = number_true n A q (declared-number Sigma3 n A e).1
+  listed_true : (c : Const) (A : Tree) → sig c ≡ Some A → declared Longest c ≡ Some A → IsTrueOf R sig (meaning R sig c) A
+  listed_true (Num n) A q e = number_true n A q (declared-number Longest n A e).1
   listed_true (Lit w) A q e =
       let h = cond_is (is_word w) (Some exp) A e in
       subst (λ z. IsTrueOf R sig (meaning R sig (Lit w)) z) (some_injective h.1) (λ ρ. (word_value w, refl, word_means w (ltb-true w (2 ^ 64) h.0)))
@@ -227,8 +221,8 @@ module _ (sig : Const → Option Tree) (given : AreModelled sig) (R : Rights) (r
   listed_true (Lemma n) A q e = cc
 
   -- past the constants of word arithmetic a value says nothing
-  past_value : (n : ℕ) → 105 ≤ n → of_type (sig (Num n)) ≡ meaning R sig (Num n)
-  past_value n h = ap (value_of (values R) (of_type (sig (Num n)))) (sym (place_of-past n (omega (arith, h))))
+  past_value : (n : ℕ) → COUNT ≤ n → of_type (sig (Num n)) ≡ meaning R sig (Num n)
+  past_value n h = ap (value_of (values R) (of_type (sig (Num n)))) (sym (place-past n h))
 
   given_true : (c : Const) (A : Tree) → sig c ≡ Some A → IsModelled c A → IsTrueOf R sig (meaning R sig c) A
   given_true c A q (own e) = listed_true c A q e
@@ -256,7 +250,7 @@ lemma_beyond (Deny r x y) l = absurd l
 -- a formula that has a proof over a sound signature is valid
 proved_valid : (before : Const → Option Tree) → IsSoundSignature before → (proof A : Tree) → IsProofType A → Checks before [] proof A → IsTrueType A
 proved_valid before sound proof A p d =
-    let f = form_encoded (declared Sigma3) (declared_known Sigma3) [] p.formula p.formed in
+    let f = form_encoded (declared Longest) (declared_known Longest) [] p.formula p.formed in
     let e = (encodes_closed f.0 p.formula).0 f.1 in
     let is : pf (form_encoding f.0) ≡ A = ap pf e.is ∙ p.is in
     record { formula = f.0; over = e.over; is = is; valid = sound f.0 proof e.over (subst (λ z. Checks before [] proof z) (sym is) d) }
@@ -282,21 +276,17 @@ all_sorted = refl
 pub rule_sorted : (n : ℕ) (r : Rule) → rule_at n ≡ Some r → is_sorted r ≡ true
 rule_sorted n r q = let f = rule_found n r q in every-at (λ n r. is_sorted r) the_rules f.0 r all_sorted f.1
 
-rules_end : length the_rules ≡ 70
-unfolding the_rules
-rules_end = refl
-
 -- where a rule may stand, the longest signature has the rule's type, or none
-pub declared_rules : (n i : ℕ) → place_of n ≡ ByRule i → declared Sigma3 (Num n) ≡ option_map rule_type (rule_at n)
-declared_rules n i e = elim (cases_lt n 105) [
-  | inl h ↦ declared-below Sigma3 n h ∙ ap type_in e ∙ sym (ap (λ p. option_map rule_type (rule_in p)) e)
+pub declared_rules : (n i : ℕ) → place_of n ≡ ByRule i → declared Longest (Num n) ≡ option_map rule_type (rule_at n)
+declared_rules n i e = elim (cases_lt n COUNT) [
+  | inl h ↦ declared-below Longest n h ∙ ap type_in e ∙ sym (ap (λ p. option_map rule_type (rule_in p)) e)
   | inr h ↦
-      let past = ap (λ p. rule_in p) (place_of-past n (omega (arith, h))) ∙ at_past the_rules (n - 35) (omega (arith, h, rules_end)) in
-      ap (λ b. cond b (type_in (place_of n)) None) (le-ltb n 105 h) ∙ ap (option_map rule_type) (sym past)
+      ap (λ b. cond b (type_in (place_of n)) None) (le-ltb n COUNT h)
+      ∙ sym (type-past n h) ∙ ap type_in e ∙ sym (ap (λ p. option_map rule_type (rule_in p)) e)
 ]
 
 pub rules_true : (n : ℕ) (r : Rule) → rule_at n ≡ Some r → IsTrueRule r
-rules_true n r q R v ρ = rule_is_true R (declared Sigma3) v ρ r (rule_sorted n r q) (rule_holds R (declared Sigma3) n r q [])
+rules_true n r q R v ρ = rule_is_true R (declared Longest) v ρ r (rule_sorted n r q) (rule_holds R (declared Longest) n r q [])
 
 -- ---- falsity has no proof
 

@@ -5,7 +5,8 @@ use Rattle.word_ops.specs.declared.Op.TheVariants.{Add, Sub, Band, Bis, Sll, Srl
 use Rattle.word_ops.specs.declared.Rel.{Rel}
 use Rattle.word_ops.specs.declared.Rel.TheVariants.{Eq, Ult, Ule, Slt, Sle}
 use Rattle.word_ops.specs.Words.{word_of, test_of}
-use Rattle.word_ops.specs.Operators.{operators}
+use Rattle.word_ops.specs.declared.Profile.TheVariants.{One}
+use Rattle.word_ops.specs.Operators.{operators, op_count}
 use Rattle.word_ops.specs.Memory.{Memory, read, write, IsMemory}
 use Rattle.word_ops.specs.Rights.{Rights, allowed}
 use Rattle.term_table.specs.Tree.{Tree, Const, Num, Lit, Calc, Fact, Deny, Lemma}
@@ -40,7 +41,7 @@ of_rel p = (Arrow e (Arrow e f), λ a b. prop_value (test_of p a.word b.word ≡
 -- the numbered constants of which formulas are made
 abbrev pub values : Rights → List AnyValue
 values R =
-    map of_op (take 11 operators) ++
+    map of_op (take (op_count One) operators) ++
     -- sel, upd
     (Arrow m (Arrow e e), λ b a. word_value (read b.memory a.word)) ∷
     (Arrow m (Arrow e (Arrow e m)), λ b a w. memory_value (write b.memory a.word w.word)) ∷
@@ -63,7 +64,7 @@ values R =
     (Arrow (Arrow e f) f, λ g. prop_value ((w : ℕ) → w < 2 ^ 64 → (g (word_value w)).prop)) ∷
     (Arrow (Arrow m f) f, λ g. prop_value ((b : Memory) → IsMemory b → (g (memory_value b)).prop)) ∷
     -- the later operators
-    map of_op (drop 11 operators)
+    map of_op (drop (op_count One) operators)
 
 -- a value that says nothing, of the simple type of a declared type
 abbrev pub of_type : Option Tree → AnyValue

@@ -1,12 +1,12 @@
 -- What a proof is worth: the closed formula that a term encodes, and soundness of a signature.
 use Rattle.std.specs.Prelude.{◌≡◌, ◌≤◌, Option, Some, []}
 use Rattle.term_table.specs.Tree.{Tree, Const, Num, Lemma}
-use Rattle.lf_signature.specs.declared.WordSignature.TheVariants.{Sigma3}
-use Rattle.lf_signature.specs.Constants.{declared}
+use Rattle.lf_signature.specs.Constants.{declared, Longest}
 use Rattle.lf_signature.specs.Order.{IsSignature}
 use Rattle.lf_signature.specs.Known.{IsLemma, IsProofType}
 use Rattle.lf_signature.specs.Typing.{Checks}
 use Rattle.lf_signature.specs.Terms.{pf}
+use Rattle.lf_signature.specs.declared.numbers.TheConstants.{COUNT}
 use Rattle.formula_tree.specs.Formulas.{Form}
 use Rattle.formula_tree.specs.Scope.{IsOver}
 use Rattle.formula_tree.specs.Truth.{IsValid}
@@ -31,7 +31,7 @@ pub record IsTrueType (type : Tree) : Type 0 where
 
 -- constants past those of word arithmetic, and lemmas
 abbrev pub IsBeyond : Const → Type 0
-IsBeyond (Num n) = 105 ≤ n
+IsBeyond (Num n) = COUNT ≤ n
 IsBeyond (Lemma n) = Unit {0}
 IsBeyond _ = ⊥
 
@@ -39,7 +39,7 @@ IsBeyond _ = ⊥
 -- closed formula that is valid; or, of a lemma, that of the proofs of a formula that has a proof
 -- over a signature of such types
 pub data IsGivenType : Const → Tree → Type 0 where
-  listed : {c : Const} {type : Tree} → declared Sigma3 c ≡ Some type → IsGivenType c type
+  listed : {c : Const} {type : Tree} → declared Longest c ≡ Some type → IsGivenType c type
   valid : {c : Const} {type : Tree} → IsBeyond c → IsTrueType type → IsGivenType c type
   proved : {c : Const} {type : Tree} (before : Const → Option Tree) (proof : Tree) →
       IsLemma c → IsProofType type → IsSignature before →

@@ -7,7 +7,7 @@ ghost use Rattle.lf_signature.specs.Rules.{Rule, rule_type};
 ghost use Rattle.lf_signature.specs.Order.{IsSignature};
 ghost use Rattle.lf_signature.specs.Constants.{place_of, rule_at, declared};
 ghost use Rattle.lf_signature.specs.declared.tables.Place.TheVariants.{ByRule};
-ghost use Rattle.lf_signature.specs.declared.WordSignature.TheVariants.{Sigma3};
+ghost use Rattle.lf_signature.specs.Constants.{Longest};
 ghost use Rattle.lf_signature.specs.Terms.{pf, falsity};
 ghost use Rattle.lf_signature.specs.Typing.{Checks};
 ghost use Rattle.formula_tree.specs.Formulas.{Form};
@@ -31,9 +31,9 @@ pub fn truth_laws()
     ensures rules { (n : ℕ) (r : Rule) → rule_at n ≡ Some r → IsTrueRule r }
     ensures sorted { (n : ℕ) (r : Rule) → rule_at n ≡ Some r → is_sorted r ≡ true }
     ensures declares { (n i : ℕ) → place_of n ≡ ByRule i →
-        declared Sigma3 (Num n) ≡ option_map rule_type (rule_at n) }
-    ensures calc { (o x y : ℕ) (a : Tree) → declared Sigma3 (Calc o x y) ≡ Some a → IsTrueType a }
-    ensures fact { (r x y : ℕ) (a : Tree) → declared Sigma3 (Fact r x y) ≡ Some a → IsTrueType a }
-    ensures deny { (r x y : ℕ) (a : Tree) → declared Sigma3 (Deny r x y) ≡ Some a → IsTrueType a }
+        declared Longest (Num n) ≡ option_map rule_type (rule_at n) }
+    ensures calc { (o x y : ℕ) (a : Tree) → declared Longest (Calc o x y) ≡ Some a → IsTrueType a }
+    ensures fact { (r x y : ℕ) (a : Tree) → declared Longest (Fact r x y) ≡ Some a → IsTrueType a }
+    ensures deny { (r x y : ℕ) (a : Tree) → declared Longest (Deny r x y) ≡ Some a → IsTrueType a }
     ensures closed { (F : Form) (t : Tree) → EncodesForm [] F t ↔ EncodesClosed F t }
 {}

@@ -1,12 +1,13 @@
 -- Native code is short, so each displacement fits.
 use Rattle.std.proofs.Common.{◌≡◌, ℕ, zero, suc, ◌+◌, ◌*◌, ◌^◌, ◌<◌, ◌≤◌, Bool, true, false, cond, ◌&&◌, eqb, List, [], ◌∷◌, ◌++◌}
-use Rattle.std.proofs.Common.{length, slice_get, Option, Some, None, refl, ap}
+use Rattle.std.proofs.Common.{nat_le, length, slice_get, Option, Some, None, refl, ap}
 use Rattle.std.proofs.Common.{ℤ, pos, negsuc, ◌-ℤ◌, FitsSigned, arith, length-append}
 use Rattle.std.specs.Int.{w32}
+use Rattle.std.proofs.lemmas.Bool.{leb-true}
 use Rattle.std.proofs.lemmas.Int.{ints}
 use borrow.Author.Differences.{up, down}
 use Rattle.word_ops.specs.declared.Op.{Op}
-use Rattle.word_ops.specs.declared.Op.TheVariants as ops
+use Rattle.word_ops.proofs.EachOp.{each_op}
 use Rattle.alpha_words.specs.declared.insn.Insn.{Insn}
 use Rattle.alpha_cfg.specs.Actions.{Sum, Applied, Test, Always, When, Action, action_of}
 use Rattle.alpha_cfg.specs.Actions as actions
@@ -85,25 +86,7 @@ keep_place-count Slot r from = omega arith
 keep_place-count Nowhere r from = omega arith
 
 op-count : (op : Op) → length (op_code op) ≤ 3
-op-count ops.Add = omega arith
-op-count ops.Sub = omega arith
-op-count ops.Band = omega arith
-op-count ops.Bis = omega arith
-op-count ops.Xor = omega arith
-op-count ops.Sll = omega arith
-op-count ops.Srl = omega arith
-op-count ops.Sra = omega arith
-op-count ops.Cmpeq = omega arith
-op-count ops.Cmplt = omega arith
-op-count ops.Cmple = omega arith
-op-count ops.Cmpult = omega arith
-op-count ops.Cmpule = omega arith
-op-count ops.Bic = omega arith
-op-count ops.S4add = omega arith
-op-count ops.S8add = omega arith
-op-count ops.Extb = omega arith
-op-count ops.Extw = omega arith
-op-count ops.Extl = omega arith
+op-count op = leb-true (length (op_code op)) 3 (each_op (λ o. nat_le (length (op_code o)) 3) refl op)
 
 -- a list that may be left out
 either-count : (b : Bool) (l m : List X86Insn) (n : ℕ) → length l ≤ n → length m ≤ n → length (cond b l m) ≤ n

@@ -8,11 +8,11 @@ use Rattle.word_ops.specs.declared.Op.TheVariants as ops
 use Rattle.word_ops.specs.Memory.{read, write}
 use Rattle.word_ops.specs.Rights.{allowed}
 use Rattle.word_ops.specs.Words.{test_of}
-use Rattle.word_ops.proofs.Bounds.{word_of-below}
+use Rattle.word_ops.proofs.EachOp.{word_of-below}
 use Rattle.word_ops.specs.declared.Rel.TheVariants.{Eq}
 use Rattle.word_ops.specs.Registers.{read_reg, write_reg}
 use Rattle.alpha_words.specs.declared.insn.Insn.{Insn}
-use Rattle.alpha_words.specs.declared.insn.Cond.{Cond}
+use Rattle.alpha_words.specs.declared.conditions.Cond.{Cond}
 use Rattle.alpha_words.specs.declared.memory.MemoryOp.{MemoryOp}
 use Rattle.alpha_words.specs.declared.memory.MemoryOp.TheVariants.{Lda, Ldah, Ldq, LdqU, Stq}
 use Rattle.alpha_words.specs.declared.insn.Format.{Format}

@@ -7,9 +7,11 @@ use Rattle.word_ops.specs.declared.Op.{Op}
 use Rattle.word_ops.specs.declared.Op.TheVariants as ops
 use Rattle.alpha_words.specs.declared.insn.Rhs.{Rhs}
 use Rattle.alpha_words.specs.declared.insn.Rhs.TheVariants.{Reg, Lit}
-use Rattle.alpha_words.specs.declared.insn.Cond.{Cond}
+use Rattle.alpha_words.specs.declared.conditions.Cond.{Cond}
 use Rattle.alpha_words.specs.declared.insn.Insn.{Insn}
-use Rattle.alpha_words.specs.declared.insn.Cond.TheVariants.{LowClear, Zero, Negative, NotPositive, LowSet, NotZero, NotNegative, Positive}
+use Rattle.alpha_words.specs.declared.conditions.Tested.{Tested}
+use Rattle.alpha_words.specs.declared.conditions.Tested.TheVariants.{Word, LowBit}
+use Rattle.alpha_words.specs.Conditions.{cond_tested}
 use Rattle.alpha_words.specs.Encoding.{IsRhs, HasBits}
 use Rattle.alpha_words.specs.Formats.{format_of}
 use Rattle.alpha_cfg.specs.Actions.{Computed, Sum, Applied, Test, Always, When, Action, action_of, HasOperands}
@@ -29,7 +31,7 @@ use Rattle.x86_words.specs.Encoding.{FitsFields, has_operands}
 use Rattle.native_steps.specs.declared.places.Place.{Place}
 use Rattle.native_steps.specs.declared.places.Place.TheVariants.{Register, Slot, Nowhere}
 use Rattle.native_steps.specs.Places.{Places, ArePlaces, place_at, slot, RAX, RCX, AREA}
-use Rattle.native_steps.specs.Sequences.{fetch_place, keep_place, op_code, cond_test, fetch, keep, fetch_rhs, computed_code, action_code, insn_code}
+use Rattle.native_steps.specs.Sequences.{fetch_place, keep_place, op_code, part_test, cond_test, fetch, keep, fetch_rhs, computed_code, action_code, insn_code}
 use Rattle.native_steps.specs.Straight.{falls_through, IsStraight}
 use Rattle.native_steps.specs.Agreement.{StraightInsns}
 use Rattle.native_steps.proofs.Frames.{free-below}
@@ -106,15 +108,12 @@ op-straight ops.Extb = extract-straight (MovByte RAX RAX) (straight (MovByte RAX
 op-straight ops.Extw = extract-straight (MovTwo RAX RAX) (straight (MovTwo RAX RAX) (rax-low, rax-low) refl refl)
 op-straight ops.Extl = extract-straight (MovFour RAX RAX) (straight (MovFour RAX RAX) (rax-low, rax-low) refl refl)
 
+part-straight : (t : Tested) → IsStraight (part_test t)
+part-straight LowBit = straight (TestImm RAX (pos 1)) (rax-low, record { sfits = omega arith }) refl refl
+part-straight Word = straight (x86.Test RAX RAX) (rax-low, rax-low) refl refl
+
 test-straight : (c : Cond) → IsStraight (cond_test c)
-test-straight LowClear = straight (TestImm RAX (pos 1)) (rax-low, record { sfits = omega arith }) refl refl
-test-straight LowSet = straight (TestImm RAX (pos 1)) (rax-low, record { sfits = omega arith }) refl refl
-test-straight Zero = straight (x86.Test RAX RAX) (rax-low, rax-low) refl refl
-test-straight Negative = straight (x86.Test RAX RAX) (rax-low, rax-low) refl refl
-test-straight NotPositive = straight (x86.Test RAX RAX) (rax-low, rax-low) refl refl
-test-straight NotZero = straight (x86.Test RAX RAX) (rax-low, rax-low) refl refl
-test-straight NotNegative = straight (x86.Test RAX RAX) (rax-low, rax-low) refl refl
-test-straight Positive = straight (x86.Test RAX RAX) (rax-low, rax-low) refl refl
+test-straight c = part-straight (cond_tested c)
 
 -- ---- operands
 

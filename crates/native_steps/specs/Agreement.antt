@@ -3,7 +3,7 @@ use Rattle.std.specs.Prelude.{◌≡◌, ℕ, ◌+◌, true, false, List, ◌∷
 use Rattle.word_ops.specs.Memory.{read}
 use Rattle.word_ops.specs.Rights.{Rights, IsSpan, in_span, allowed}
 use Rattle.word_ops.specs.Registers.{read_reg}
-use Rattle.alpha_words.specs.declared.insn.Cond.{Cond}
+use Rattle.alpha_words.specs.declared.conditions.Cond.{Cond}
 use Rattle.alpha_words.specs.declared.insn.Insn.{Insn}
 use Rattle.alpha_cfg.specs.declared.outcome.Step.TheVariants.{Moved}
 use Rattle.alpha_cfg.specs.Actions.{When, action_of}

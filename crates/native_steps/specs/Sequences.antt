@@ -1,12 +1,16 @@
 -- What each Alpha instruction becomes, but for jumps: operands come into rax and rcx, the result is computed in rax and taken to its place.
 -- Alpha Architecture Handbook, the instruction descriptions; Intel 64 and IA-32 Architectures Software Developer's Manual, volume 2.
-use Rattle.std.specs.Prelude.{ℕ, ◌==◌, if◌then◌else◌, List, [], ◌∷◌, ◌++◌, ℤ, pos, negsuc}
+use Rattle.std.specs.Prelude.{ℕ, Bool, true, false, ◌==◌, if◌then◌else◌, List, [], ◌∷◌, ◌++◌, ℤ, pos, negsuc}
 use Rattle.word_ops.specs.declared.Op.{Op}
 use Rattle.word_ops.specs.declared.Op.TheVariants as ops
 use Rattle.alpha_words.specs.declared.insn.Rhs.{Rhs}
 use Rattle.alpha_words.specs.declared.insn.Rhs.TheVariants.{Reg, Lit}
-use Rattle.alpha_words.specs.declared.insn.Cond.{Cond}
-use Rattle.alpha_words.specs.declared.insn.Cond.TheVariants.{LowClear, Zero, Negative, NotPositive, LowSet, NotZero, NotNegative, Positive}
+use Rattle.alpha_words.specs.declared.conditions.Cond.{Cond}
+use Rattle.alpha_words.specs.declared.conditions.Tested.{Tested}
+use Rattle.alpha_words.specs.declared.conditions.Tested.TheVariants.{Word, LowBit}
+use Rattle.alpha_words.specs.declared.conditions.ToZero.{ToZero}
+use Rattle.alpha_words.specs.declared.conditions.ToZero.TheVariants as zero
+use Rattle.alpha_words.specs.Conditions.{cond_tested, cond_to_zero, cond_taken}
 use Rattle.alpha_words.specs.declared.insn.Insn.{Insn}
 use Rattle.alpha_cfg.specs.Actions.{Computed, Sum, Applied, Test, Always, When, Action, action_of}
 use Rattle.alpha_cfg.specs.Actions as actions
@@ -57,22 +61,27 @@ op_code ops.Extb = ShiftImm Shl RCX 3 ∷ ShiftCl Shr RAX ∷ MovByte RAX RAX �
 op_code ops.Extw = ShiftImm Shl RCX 3 ∷ ShiftCl Shr RAX ∷ MovTwo RAX RAX ∷ []
 op_code ops.Extl = ShiftImm Shl RCX 3 ∷ ShiftCl Shr RAX ∷ MovFour RAX RAX ∷ []
 
+-- the condition that holds, after the test of a word, where the word compares with 0 so, or where it doesn't
+abbrev pub zero_cond : ToZero → Bool → X86Cond
+zero_cond zero.Equal true = Equal
+zero_cond zero.Less true = Sign
+zero_cond zero.AtMost true = LessOrEqual
+zero_cond zero.Equal false = NotEqual
+zero_cond zero.Less false = NoSign
+zero_cond zero.AtMost false = Greater
+
 -- the condition that holds, after the test of a register, where the branch is taken
 abbrev pub branch_cond : Cond → X86Cond
-branch_cond LowClear = Equal
-branch_cond Zero = Equal
-branch_cond Negative = Sign
-branch_cond NotPositive = LessOrEqual
-branch_cond LowSet = NotEqual
-branch_cond NotZero = NotEqual
-branch_cond NotNegative = NoSign
-branch_cond Positive = Greater
+branch_cond c = zero_cond (cond_to_zero c) (cond_taken c)
+
+-- the test of rax, or of its lowest bit
+abbrev pub part_test : Tested → X86Insn
+part_test Word = x86.Test RAX RAX
+part_test LowBit = TestImm RAX (pos 1)
 
 -- the test of rax for a condition
 abbrev pub cond_test : Cond → X86Insn
-cond_test LowClear = TestImm RAX (pos 1)
-cond_test LowSet = TestImm RAX (pos 1)
-cond_test _ = x86.Test RAX RAX
+cond_test c = part_test (cond_tested c)
 
 module _ (p : Places) where
   -- the word of an Alpha register into a register; register 31 reads 0

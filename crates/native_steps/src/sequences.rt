@@ -6,7 +6,7 @@ ghost use Rattle.native_steps.specs.Places as places;
 ghost use Rattle.native_steps.specs.Sequences as sequences;
 
 use crate::places::{Place, Places, area, rax, rcx, slot};
-use alpha_words::{Cond, Insn, Reg, Rhs};
+use alpha_words::{Cond, Insn, Reg, Rhs, Tested, ToZero, cond_taken, cond_tested, cond_to_zero};
 use std::alloc::AllocError;
 use word_ops::Op;
 use x86_words::{AluOp, Scale, ShiftOp, X86Cond, X86Insn, X86Reg};
@@ -15,13 +15,29 @@ use x86_words::{AluOp, Scale, ShiftOp, X86Cond, X86Insn, X86Reg};
 pub fn branch_cond(cond: Cond) -> X86Cond
     ensures { result ≡ sequences.branch_cond cond }
 {
-    match cond {
-        Cond::LowClear | Cond::Zero => X86Cond::Equal,
-        Cond::Negative => X86Cond::Sign,
-        Cond::NotPositive => X86Cond::LessOrEqual,
-        Cond::LowSet | Cond::NotZero => X86Cond::NotEqual,
-        Cond::NotNegative => X86Cond::NoSign,
-        Cond::Positive => X86Cond::Greater,
+    let taken = cond_taken(cond);
+    match cond_to_zero(cond) {
+        ToZero::Equal => {
+            if taken {
+                X86Cond::Equal
+            } else {
+                X86Cond::NotEqual
+            }
+        }
+        ToZero::Less => {
+            if taken {
+                X86Cond::Sign
+            } else {
+                X86Cond::NoSign
+            }
+        }
+        ToZero::AtMost => {
+            if taken {
+                X86Cond::LessOrEqual
+            } else {
+                X86Cond::Greater
+            }
+        }
     }
 }
 
@@ -29,12 +45,12 @@ pub fn branch_cond(cond: Cond) -> X86Cond
 fn cond_test(cond: Cond) -> X86Insn
     ensures { result ≡ sequences.cond_test cond }
 {
-    match cond {
-        Cond::LowClear | Cond::LowSet => X86Insn::TestImm {
+    match cond_tested(cond) {
+        Tested::LowBit => X86Insn::TestImm {
             left: rax(),
             imm: 1,
         },
-        _ => X86Insn::Test {
+        Tested::Word => X86Insn::Test {
             left: rax(),
             right: rax(),
         },

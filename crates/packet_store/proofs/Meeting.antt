@@ -1,8 +1,8 @@
 -- The start states meet their policies' preconditions.
 use Rattle.std.proofs.Common.{◌≡◌, ◌≢◌, ℕ, ◌+◌, ◌-◌, ◌*◌, ◌/◌, ◌%◌, ◌<◌, ◌≤◌, ◌^◌, true, false, Option, Some, None, List, [], ◌∷◌, length, take, bit_and}
-use Rattle.std.proofs.Common.{eqb, cond, ap, refl, sym, ◌∙◌, subst, arith, inl, inr}
+use Rattle.std.proofs.Common.{eqb, cond, ap, refl, sym, ◌∙◌, subst, arith}
 use Rattle.std.proofs.lemmas.Nat.{and_mask}
-use Rattle.std.proofs.lemmas.Bool.{ltb-true, eqb-true, le-leb, lt-ltb, le-ltb, eq-eqb, ne_eqb, cases_lt}
+use Rattle.std.proofs.lemmas.Bool.{ltb-true, eqb-true, le-leb, lt-ltb, eq-eqb, ne_eqb}
 use Rattle.std.proofs.lemmas.List.{get_or-take}
 use Rattle.std.proofs.lemmas.Option.{none-some}
 use Rattle.word_ops.specs.Memory.{Memory, read}
@@ -17,8 +17,8 @@ use Rattle.policy_set.proofs.Closed.{kind-formulas}
 use Rattle.reference_machine.specs.Arena.{quadword, placed_word}
 use Rattle.reference_machine.specs.Starts.{StartView, start_state}
 use Rattle.reference_machine.proofs.Starting.{read-start}
-use Rattle.packet_store.specs.PolicyStarts.{filter_start, tag_start, table_start, start_from}
-use Rattle.packet_store.proofs.StartLemmas.{the_same}
+use Rattle.packet_store.specs.PolicyStarts.{filter_start, tag_start, table_start, least_packet, kind_start, start_from}
+use Rattle.packet_store.proofs.StartLemmas.{start_from-is}
 use Rattle.packet_store.specs.StartMeets.{StartMeetsIn}
 
 -- 31 registers, all 0 but r16 to r18
@@ -115,23 +115,19 @@ tag_begins base p low =
     tag_meets base m ((cond (eqb (quadword p 0) 0) (base, 0) (base + 8, 1)) ∷ (base, 0) ∷ []) low
     (λ ne. second base (quadword p 0) (λ z. ne (read_first base p ∙ z)))
 
--- a start meets the precondition of the kind
+-- a kind's start meets its precondition
+pub kind-begins : (base : ℕ) (kind : PolicyKind) (packet : List ℕ) → base < 2 ^ 32 → least_packet kind ≤ length packet → length packet ≤ 65535
+    → StartMeetsIn base (kind_start kind base packet) (pre_of kind)
+kind-begins base Filter packet low enough short = filter_begins base packet low enough short
+kind-begins base Tag packet low enough short = tag_begins base packet low
+kind-begins base Table packet low enough short = table_begins base packet low short
+
 start_from-meets-kind : (base : ℕ) (kind : PolicyKind) (packet : List ℕ) (setup : StartView)
     → base < 2 ^ 32 → length packet ≤ 65535 →
     start_from base (Some kind) packet ≡ Some setup → StartMeetsIn base setup (pre_of kind)
-unfolding start_from
-start_from-meets-kind base Filter packet setup low short e = elim (cases_lt (length packet) 64) [
-  | inl less ↦ let none : None ≡ Some setup = rw (lt-ltb (length packet) 64 less) at e in cc
-  | inr enough ↦
-      the_same (λ s. StartMeetsIn base s filter_pre) (filter_start base packet) setup (filter_begins base packet low enough short) (rw (le-ltb (length packet) 64 enough) at e)
-]
-start_from-meets-kind base Tag packet setup low short e = elim (cases_lt (length packet) 16) [
-  | inl less ↦ let none : None ≡ Some setup = rw (lt-ltb (length packet) 16 less) at e in cc
-  | inr enough ↦
-      the_same (λ s. StartMeetsIn base s tag_pre) (tag_start base packet) setup (tag_begins base packet low) (rw (le-ltb (length packet) 16 enough) at e)
-]
-start_from-meets-kind base Table packet setup low short e =
-    the_same (λ s. StartMeetsIn base s table_pre) (table_start base packet) setup (table_begins base packet low short) e
+start_from-meets-kind base kind packet setup low short e =
+    let s = start_from-is base kind packet setup e in
+    subst (λ (x : StartView). StartMeetsIn base x (pre_of kind)) s.1 (kind-begins base kind packet low s.0 short)
 
 -- what meets the precondition of the kind meets the policy's
 pub meets-policy : (base : ℕ) (policy : PolicyView) (kind : PolicyKind) (setup : StartView)

@@ -1,19 +1,20 @@
 -- Starts lie in the arena, and are states.
 use Rattle.std.proofs.Common.{◌≡◌, ℕ, ◌+◌, ◌-◌, ◌*◌, ◌/◌, ◌%◌, ◌^◌, ◌<◌, ◌≤◌, ◌==◌, min, Bool, true, false, if◌then◌else◌, List, [], ◌∷◌, length, take, slice_index}
-use Rattle.std.proofs.Common.{Option, Some, None, subst, arith, inl, inr}
-use Rattle.std.proofs.lemmas.Bool.{cases_lt, lt-ltb, le-ltb}
-use Rattle.std.proofs.lemmas.Option.{none-some}
+use Rattle.std.proofs.Common.{nat_lt, Option, Some, None, refl, subst, arith, inl, inr}
+use Rattle.std.proofs.lemmas.Bool.{cases_lt, ltb-false}
+use Rattle.std.proofs.lemmas.Option.{none-some, same_Some}
 use Rattle.std.proofs.lemmas.List.{get_or-take, get_or_past, length-take}
 use Rattle.policy_set.specs.declared.kind.PolicyKind.{PolicyKind}
 use Rattle.policy_set.specs.declared.kind.PolicyKind.TheVariants.{Filter, Tag, Table}
 use Rattle.alpha_cfg.specs.Machine.{IsState}
-use Rattle.reference_machine.specs.Arena.{quadword}
+use Rattle.word_ops.specs.Memory.{Memory}
+use Rattle.reference_machine.specs.Arena.{quadword, sum_of}
 use Rattle.reference_machine.specs.Agents.{IsInArena, AreInArena}
 use Rattle.reference_machine.specs.Starts.{StartView, Fits, HasWords, start_state}
 use Rattle.reference_machine.proofs.Fresh.{both_in}
 use Rattle.reference_machine.proofs.Starting.{start_state-is}
 use Rattle.term_table.specs.Bytes.{IsBytes}
-use Rattle.packet_store.specs.PolicyStarts.{start_from, filter_start, tag_start, table_start, quadwords_of, unused}
+use Rattle.packet_store.specs.PolicyStarts.{least_packet, kind_start, start_from, filter_start, tag_start, table_start, quadwords_of, unused}
 
 -- a span of an arena that begins at the base
 span_in : (base p count : ℕ) → base ≤ p → (p - base) % 8 ≡ 0 → p + 8 * count ≤ base + 8 * 8194 → IsInArena base (p, count)
@@ -84,9 +85,6 @@ pub record IsGood (base : ℕ) (setup : StartView) : Type 0 where
   pub fits : Fits base setup
   pub words : HasWords setup
 
-pub the_same : {A : Type 0} (P : A → Type 0) (x y : A) → P x → Some x ≡ Some y → P y
-the_same P x y p e = let same : x ≡ y = cc in subst P same p
-
 pub filter_good : (base : ℕ) (packet : List ℕ) → base < 2 ^ 32 → length packet ≤ 65535 → IsBytes packet → IsGood base (filter_start base packet)
 filter_good base packet low short bytes = record { fits = filter_fits base packet short; words = filter_words base packet low short bytes }
 
@@ -96,28 +94,49 @@ tag_good base packet low enough bytes = record { fits = tag_fits base packet eno
 pub table_good : (base : ℕ) (packet : List ℕ) → base < 2 ^ 32 → length packet ≤ 65535 → IsBytes packet → IsGood base (table_start base packet)
 table_good base packet low short bytes = record { fits = table_fits base packet short; words = table_words base packet low short bytes }
 
+-- ---- each kind
+
+-- a kind's start is one
+pub kind-good : (base : ℕ) (kind : PolicyKind) (packet : List ℕ) → base < 2 ^ 32 → least_packet kind ≤ length packet → length packet ≤ 65535 → IsBytes packet
+    → IsGood base (kind_start kind base packet)
+kind-good base Filter packet low enough short bytes = filter_good base packet low short bytes
+kind-good base Tag packet low enough short bytes = tag_good base packet low enough bytes
+kind-good base Table packet low enough short bytes = table_good base packet low short bytes
+
+-- where its region isn't empty it is at the base
+kind-sum : (base : ℕ) (kind : PolicyKind) (packet : List ℕ) (m : Memory)
+    → sum_of m base (kind_start kind base packet).region ≡ sum_of m (kind_start kind base packet).at (kind_start kind base packet).region
+kind-sum base Filter packet m = refl
+kind-sum base Tag packet m = refl
+kind-sum base Table packet m = refl
+
+-- a start is that of its kind, on a packet that isn't too short
+pub start_from-is : (base : ℕ) (kind : PolicyKind) (packet : List ℕ) (setup : StartView) → start_from base (Some kind) packet ≡ Some setup
+    → (least_packet kind ≤ length packet) × (kind_start kind base packet ≡ setup)
+unfolding start_from
+start_from-is base kind packet setup e = by (nat_lt (length packet) (least_packet kind)) refl e
+  where
+    by : (b : Bool) → nat_lt (length packet) (least_packet kind) ≡ b → (if b then None else Some (kind_start kind base packet)) ≡ Some setup
+        → (least_packet kind ≤ length packet) × (kind_start kind base packet ≡ setup)
+    by true q h = cc
+    by false q h = (ltb-false (length packet) (least_packet kind) q, same_Some (kind_start kind base packet) setup h)
+
 pub start_from-good : (base : ℕ) (kind : Option PolicyKind) (packet : List ℕ) (setup : StartView)
     → base < 2 ^ 32 → length packet ≤ 65535 → IsBytes packet →
     start_from base kind packet ≡ Some setup → IsGood base setup
 unfolding start_from
 start_from-good base None packet setup low short bytes e = absurd (none-some setup e)
-start_from-good base (Some Filter) packet setup low short bytes e =
-    elim (cases_lt (length packet) 64) [
-      | inl less ↦ let none : None ≡ Some setup = rw (lt-ltb (length packet) 64 less) at e in cc
-      | inr enough ↦
-          the_same (IsGood base) (filter_start base packet) setup
-          (filter_good base packet low short bytes) (rw (le-ltb (length packet) 64 enough) at e)
-    ]
-start_from-good base (Some Tag) packet setup low short bytes e =
-    elim (cases_lt (length packet) 16) [
-      | inl less ↦ let none : None ≡ Some setup = rw (lt-ltb (length packet) 16 less) at e in cc
-      | inr enough ↦
-          the_same (IsGood base) (tag_start base packet) setup
-          (tag_good base packet low enough bytes) (rw (le-ltb (length packet) 16 enough) at e)
-    ]
-start_from-good base (Some Table) packet setup low short bytes e =
-    the_same (IsGood base) (table_start base packet) setup (table_good base packet low short bytes)
-    e
+start_from-good base (Some kind) packet setup low short bytes e =
+    let s = start_from-is base kind packet setup e in
+    subst (IsGood base) s.1 (kind-good base kind packet low s.0 short bytes)
+
+-- the sum of a start's region is that at the base
+pub start_from-sum : (base : ℕ) (kind : Option PolicyKind) (packet : List ℕ) (setup : StartView) (m : Memory)
+    → start_from base kind packet ≡ Some setup → sum_of m base setup.region ≡ sum_of m setup.at setup.region
+unfolding start_from
+start_from-sum base None packet setup m e = absurd (none-some setup e)
+start_from-sum base (Some kind) packet setup m e =
+    subst (λ (s : StartView). sum_of m base s.region ≡ sum_of m s.at s.region) (start_from-is base kind packet setup e).1 (kind-sum base kind packet m)
 
 -- it is a state of the machine
 pub good-state : (base : ℕ) (setup : StartView) → base % 8 ≡ 0 → base < 2 ^ 32 → IsGood base setup → IsState (start_state base setup)

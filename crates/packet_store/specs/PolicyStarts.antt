@@ -55,15 +55,23 @@ table_start base packet = record {
   writes = (base, quadwords_of packet) ∷ unused base ∷ [];
 }
 
--- A filter's packet is short below 64 bytes, a tag's below 16, and a table's never; to a policy
--- without a kind each packet is.
+-- how many bytes a packet has at least for a kind of policy
+abbrev pub least_packet : PolicyKind → ℕ
+least_packet Filter = 64
+least_packet Tag = 16
+least_packet Table = 0
+
+-- the start of a kind of policy on a packet
+abbrev pub kind_start : PolicyKind → ℕ → List ℕ → StartView
+kind_start Filter = filter_start
+kind_start Tag = tag_start
+kind_start Table = table_start
+
+-- The start of a policy's kind on a packet, if that isn't too short; to a policy without a kind each packet is.
 unfoldable pub start_from : ℕ → Option PolicyKind → List ℕ → Option StartView
 start_from base None packet = None
-start_from base (Some Filter) packet =
-    if nat_lt (length packet) 64 then None else Some (filter_start base packet)
-start_from base (Some Tag) packet =
-    if nat_lt (length packet) 16 then None else Some (tag_start base packet)
-start_from base (Some Table) packet = Some (table_start base packet)
+start_from base (Some kind) packet =
+    if nat_lt (length packet) (least_packet kind) then None else Some (kind_start kind base packet)
 
 -- the start of an agent that is alone
 abbrev pub start_of : PolicyView → List ℕ → Option StartView

@@ -3,6 +3,7 @@
 ghost use Rattle.std.specs.Prelude.{◌≡◌, ◌+◌, ◌%◌, ◌^◌, ◌==◌, ◌<◌, ◌≤◌, option_map, IfSome, length};
 ghost use Rattle.alpha_cfg.specs.Machine.{IsState};
 ghost use Rattle.packet_store.specs.PolicyStarts.{start_from, start_of, filter_start, tag_start, table_start};
+ghost use Rattle.packet_store.specs.PolicyStarts.{least_packet, kind_start};
 ghost use Rattle.packet_store.specs.StartMeets.{StartMeets, StartMeetsIn};
 ghost use Rattle.reference_machine.specs.Arena.{quadword};
 ghost use Rattle.reference_machine.specs.Setups.{start_view};
@@ -83,6 +84,31 @@ fn table_start(packet: &[u8], base: u64) -> Start<'_>
     }
 }
 
+/// Returns how many bytes a packet has at least for a kind of policy.
+fn least_packet(kind: PolicyKind) -> usize
+    ensures { result ≡ least_packet kind }
+{
+    match kind {
+        PolicyKind::Filter => 64,
+        PolicyKind::Tag => 16,
+        PolicyKind::Table => 0,
+    }
+}
+
+/// Returns the start of a kind of policy on a packet that isn't too short.
+fn kind_start(kind: PolicyKind, packet: &[u8], base: u64) -> Start<'_>
+    requires enough { least_packet kind ≤ length packet.now }
+    requires packet { length packet.now ≤ MAX_PACKET }
+    requires low { base < 2 ^ 32 }
+    ensures value { start_view result ≡ kind_start kind base packet.now }
+{
+    match kind {
+        PolicyKind::Filter => filter_start(packet, base),
+        PolicyKind::Tag => tag_start(packet, base),
+        PolicyKind::Table => table_start(packet, base),
+    }
+}
+
 /// Returns the policy's start on a packet of at most `MAX_PACKET` bytes, in an arena that begins at
 /// `base`. The address `base` must be a multiple of 8 and below 2^32.
 ///
@@ -104,21 +130,11 @@ pub fn start_at<'b>(policy: &Policy, packet: &'b [u8], base: u64) -> Option<Star
     let Some(kind) = policy.kind() else {
         return None;
     };
-    match kind {
-        PolicyKind::Filter => {
-            if packet.len() < 64 {
-                return None;
-            }
-            Some(filter_start(packet, base))
-        }
-        PolicyKind::Tag => {
-            if packet.len() < 16 {
-                return None;
-            }
-            Some(tag_start(packet, base))
-        }
-        PolicyKind::Table => Some(table_start(packet, base)),
+    let is_short = packet.len() < least_packet(kind);
+    if is_short {
+        return None;
     }
+    Some(kind_start(kind, packet, base))
 }
 
 /// Returns the policy's start on a packet of at most `MAX_PACKET` bytes, for an agent that is

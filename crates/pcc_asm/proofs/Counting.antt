@@ -26,7 +26,7 @@ use Rattle.formula_text.specs.Bindings.{is_name, Bindings, nearest_binding}
 use Rattle.formula_text.specs.Grammar.{SpellsExp, SpellsMem, SpellsForm}
 use Rattle.term_table.specs.Tree.{Tree, Var, Con, App, Lam, Fam, TApp, Pi, Const, Num, Lit, Calc, Fact, Deny, Lemma}
 use Rattle.term_table.specs.Table.{tree_in, AreDifferent}
-use Rattle.lf_signature.specs.declared.numbers.TheConstants.{SEL, UPD, RD, WR, AND, OR, IMP, ALL, ALLM}
+use Rattle.lf_signature.specs.declared.numbers.TheConstants.{ALL, ALLM, AND, FIRST_RULE, IMP, OR, RD, SEL, UPD, WR}
 use Rattle.word_ops.specs.Operators.{op_constant, op_keyword}
 use Rattle.word_ops.proofs.EachOp.{each_op}
 use Rattle.lf_signature.specs.Numbers.{rel_constant}
@@ -45,8 +45,8 @@ use Rattle.word_ops.specs.declared.Profile.{Profile}
 -- ---- leaves with a number of their own, and what else there is
 
 abbrev const_number : Const → Option ℕ
-const_number (Num n) = cond (nat_lt n 27) (Some n) None
-const_number (Lit w) = cond (nat_lt w 100) (Some (27 + w)) None
+const_number (Num n) = cond (nat_lt n FIRST_RULE) (Some n) None
+const_number (Lit w) = cond (nat_lt w 100) (Some (FIRST_RULE + w)) None
 const_number (Calc o a b) = None
 const_number (Fact p a b) = None
 const_number (Deny p a b) = None
@@ -138,7 +138,7 @@ length-split (t ∷ ts) = length-put (leaf_number t) (numbers ts) (length ts) (m
 
 -- the leaf of a number
 abbrev leaf_of : ℕ → Tree
-leaf_of n = cond (nat_lt n 27) (Con (Num n)) (cond (nat_lt n 127) (Con (Lit (n - 27))) (Var (n - 127)))
+leaf_of n = cond (nat_lt n FIRST_RULE) (Con (Num n)) (cond (nat_lt n 127) (Con (Lit (n - FIRST_RULE))) (Var (n - 127)))
 
 -- the tree is the number's leaf
 abbrev IsLeafOf : ℕ → Tree → Type 0
@@ -153,25 +153,25 @@ var_leaf k n true f e =
     let l : k < 373 = ltb-true k 373 f in
     let z : 127 + k ≡ n = some_same _ _ e in
     let d : k ≡ n - 127 = omega (arith, z) in
-    (ap Var d ∙ sym (ap (λ b. cond b (Con (Num n)) (cond (nat_lt n 127) (Con (Lit (n - 27))) (Var (n - 127)))) (le-ltb n 27 (omega (arith, z))) ∙ ap (λ b. cond b (Con (Lit (n - 27))) (Var (n - 127))) (le-ltb n 127 (omega (arith, z)))), omega (arith, l, z))
+    (ap Var d ∙ sym (ap (λ b. cond b (Con (Num n)) (cond (nat_lt n 127) (Con (Lit (n - FIRST_RULE))) (Var (n - 127)))) (le-ltb n FIRST_RULE (omega (arith, z))) ∙ ap (λ b. cond b (Con (Lit (n - FIRST_RULE))) (Var (n - 127))) (le-ltb n 127 (omega (arith, z)))), omega (arith, l, z))
 
-num_leaf : (k n : ℕ) (b : Bool) → nat_lt k 27 ≡ b → cond b (Some k) None ≡ Some n → IsLeafOf n (Con (Num k))
+num_leaf : (k n : ℕ) (b : Bool) → nat_lt k FIRST_RULE ≡ b → cond b (Some k) None ≡ Some n → IsLeafOf n (Con (Num k))
 num_leaf k n false f e = cc
 num_leaf k n true f e =
-    let l : k < 27 = ltb-true k 27 f in
+    let l : k < FIRST_RULE = ltb-true k FIRST_RULE f in
     let z : k ≡ n = some_same _ _ e in
-    (ap (λ x. Con (Num x)) z ∙ sym (ap (λ b. cond b (Con (Num n)) (cond (nat_lt n 127) (Con (Lit (n - 27))) (Var (n - 127)))) (lt-ltb n 27 (omega (arith, l, z)))), omega (arith, l, z))
+    (ap (λ x. Con (Num x)) z ∙ sym (ap (λ b. cond b (Con (Num n)) (cond (nat_lt n 127) (Con (Lit (n - FIRST_RULE))) (Var (n - 127)))) (lt-ltb n FIRST_RULE (omega (arith, l, z)))), omega (arith, l, z))
 
-lit_leaf : (k n : ℕ) (b : Bool) → nat_lt k 100 ≡ b → cond b (Some (27 + k)) None ≡ Some n → IsLeafOf n (Con (Lit k))
+lit_leaf : (k n : ℕ) (b : Bool) → nat_lt k 100 ≡ b → cond b (Some (FIRST_RULE + k)) None ≡ Some n → IsLeafOf n (Con (Lit k))
 lit_leaf k n false f e = cc
 lit_leaf k n true f e =
     let l : k < 100 = ltb-true k 100 f in
-    let z : 27 + k ≡ n = some_same _ _ e in
-    let d : k ≡ n - 27 = omega (arith, z) in
-    (ap (λ x. Con (Lit x)) d ∙ sym (ap (λ b. cond b (Con (Num n)) (cond (nat_lt n 127) (Con (Lit (n - 27))) (Var (n - 127)))) (le-ltb n 27 (omega (arith, z))) ∙ ap (λ b. cond b (Con (Lit (n - 27))) (Var (n - 127))) (lt-ltb n 127 (omega (arith, l, z)))), omega (arith, l, z))
+    let z : FIRST_RULE + k ≡ n = some_same _ _ e in
+    let d : k ≡ n - FIRST_RULE = omega (arith, z) in
+    (ap (λ x. Con (Lit x)) d ∙ sym (ap (λ b. cond b (Con (Num n)) (cond (nat_lt n 127) (Con (Lit (n - FIRST_RULE))) (Var (n - 127)))) (le-ltb n FIRST_RULE (omega (arith, z))) ∙ ap (λ b. cond b (Con (Lit (n - FIRST_RULE))) (Var (n - 127))) (lt-ltb n 127 (omega (arith, l, z)))), omega (arith, l, z))
 
 const_leaf : (c : Const) (n : ℕ) → const_number c ≡ Some n → IsLeafOf n (Con c)
-const_leaf (Num k) n e = num_leaf k n (nat_lt k 27) refl e
+const_leaf (Num k) n e = num_leaf k n (nat_lt k FIRST_RULE) refl e
 const_leaf (Lit w) n e = lit_leaf w n (nat_lt w 100) refl e
 const_leaf (Calc o a b) n e = cc
 const_leaf (Fact p a b) n e = cc
@@ -319,7 +319,7 @@ number_long (b ∷ []) n h l = ⊎_elim (λ p. let k = digits_value-lt 10 (b ∷
 number_long (b ∷ c ∷ []) n h l = ⊎_elim (λ p. let k = digits_value-lt 10 (b ∷ c ∷ []) p.0.1 in absurd (omega (arith, k, p.1, l))) (λ p. let e = ap length p.1 in absurd (omega (arith, e, p.2.0))) h
 number_long (b ∷ c ∷ d ∷ w) n h l = omega arith
 
-lit_by : (n m : ℕ) (b : Bool) → nat_lt n 100 ≡ b → 1 ≤ m → (100 ≤ n → 3 ≤ m) → 2 * weigh (cond b (Some (27 + n)) None) < m
+lit_by : (n m : ℕ) (b : Bool) → nat_lt n 100 ≡ b → 1 ≤ m → (100 ≤ n → 3 ≤ m) → 2 * weigh (cond b (Some (FIRST_RULE + n)) None) < m
 lit_by n m true e s h = omega (arith, s)
 lit_by n m false e s h = let l = h (ltb-false n 100 e) in omega (arith, l)
 

@@ -1,5 +1,5 @@
 -- What is assembled keeps to the limits: its terms are low, and its entries short.
-use Rattle.std.proofs.Common.{◌≡◌, ℕ, suc, ◌+◌, ◌*◌, ◌/◌, ◌≤◌, ◌==◌, Bool, true, false, cond, List, [], ◌∷◌, ◌++◌, length, map, Option, Some, None, is_some, Result, Ok, Err, IfOk, refl, sym, subst, arith, length-append}
+use Rattle.std.proofs.Common.{◌≡◌, ℕ, suc, ◌+◌, ◌*◌, ◌/◌, ◌≤◌, Bool, true, false, cond, List, [], ◌∷◌, ◌++◌, length, map, Option, Some, None, is_some, Result, Ok, Err, IfOk, refl, sym, subst, arith, length-append}
 use Rattle.std.specs.Prelude.{nat_lt}
 use Rattle.std.specs.List.{AllByRecursion, flat_map}
 use Rattle.std.proofs.lemmas.List.{length-map}
@@ -16,7 +16,7 @@ use Rattle.proof_container.specs.Contents.{Contents, roots}
 use Rattle.proof_container.specs.Postorder.{is_emitted, emitted_with, emitted_with_all, entries}
 use Rattle.proof_container.specs.Encoding.{field_bytes, entry_fields, inv_fields, lemmas_fields, proof_field, magic, policy_bytes, bound_fields, head_bytes, tail_fields, encoding_of}
 use Rattle.proof_container.specs.declared.container.Head.TheVariants.{Number, Digest}
-use Rattle.proof_container.specs.Versions.{profile_of}
+use Rattle.proof_container.specs.Versions.{is_numbered, has_lemmas, profile_of}
 use Rattle.policy_set.specs.Names.{policy_number}
 use Rattle.policy_set.specs.Digest.{policy_text, digest_of}
 use Rattle.sha2.proofs.Facts256.{length-sha256}
@@ -190,7 +190,7 @@ tail_length es c =
 
 -- no lemmas have at most one field, their count
 no_lemmas_length : (v : ℕ) (es : List Tree) → length (lemmas_fields v es []) ≤ 1
-no_lemmas_length v es = go (v == 4)
+no_lemmas_length v es = go (has_lemmas v)
   where
     go : (b : Bool) → length {A = ℕ} (cond b (0 ∷ []) []) ≤ 1
     go true = omega arith
@@ -233,7 +233,7 @@ number_length : (n : ℕ) → length (policy_bytes (Number n)) ≡ 4
 number_length n = length-field_bytes (n ∷ [])
 
 head_length : (v : ℕ) (policy : PolicyView) → length (policy_bytes (head_for v policy)) ≤ 32
-head_length v policy = go (v == 1)
+head_length v policy = go (is_numbered v)
   where
     go : (b : Bool)
         → length (policy_bytes (cond b (Number (policy_number policy)) (Digest (digest_of policy))))

@@ -13,13 +13,13 @@ use Rattle.alpha_words.specs.declared.insn.Insn.TheVariants.{Ret}
 use Rattle.alpha_words.specs.declared.insn.Format.{Format}
 use Rattle.alpha_words.specs.declared.insn.Format.TheVariants as F
 use Rattle.alpha_words.specs.declared.memory.MemoryOp.{MemoryOp}
-use Rattle.alpha_words.specs.declared.insn.Cond.{Cond}
-use Rattle.alpha_words.specs.declared.insn.Cond.TheVariants as K
+use Rattle.alpha_words.specs.declared.conditions.Cond.{Cond}
+use Rattle.alpha_words.proofs.EachCond.{each_cond}
 use Rattle.alpha_words.specs.declared.insn.Rhs.{Rhs}
 use Rattle.alpha_words.specs.declared.insn.Rhs.TheVariants as R
 use Rattle.word_ops.specs.Operators.{op_opcode, op_function}
 use Rattle.word_ops.proofs.EachOp.{each_op}
-use Rattle.alpha_words.specs.Opcodes.{cond_opcode_of}
+use Rattle.alpha_words.specs.Conditions.{cond_opcode_of}
 use Rattle.alpha_words.specs.MemoryOps.{memory_opcode}
 use Rattle.alpha_words.specs.Formats.{format_of, insn_of}
 use Rattle.alpha_words.specs.Encoding.{HasBits, rhs_bits, IsRhs, memory_word, branch_word, operate_word, Encodes, EncodesFormat, EncodesAny}
@@ -65,14 +65,7 @@ opcode_small : (op : MemoryOp) → memory_opcode op < 64
 opcode_small op = ltb-true (memory_opcode op) 64 (each_memory_op (λ o. ltb (memory_opcode o) 64) refl op)
 
 cond_small : (c : Cond) → cond_opcode_of c < 64
-cond_small K.LowClear = omega arith
-cond_small K.Zero = omega arith
-cond_small K.Negative = omega arith
-cond_small K.NotPositive = omega arith
-cond_small K.LowSet = omega arith
-cond_small K.NotZero = omega arith
-cond_small K.NotNegative = omega arith
-cond_small K.Positive = omega arith
+cond_small c = ltb-true (cond_opcode_of c) 64 (each_cond (λ d. ltb (cond_opcode_of d) 64) refl c)
 
 operate_small : (op : Op) (ra rc : ℕ) (rhs : Rhs) → ra < 32 → IsRhs rhs → rc < 32 → operate_word op ra rhs rc < 2 ^ 32
 operate_small op ra rc rhs a r c = let k = code_small op in let b = rhs_small rhs r in omega (arith, k.0, k.1, a, b, c)

@@ -1,6 +1,6 @@
 -- Assembling a source: labels become displacements, and the code and the invariants become what a container holds. The first
 -- line that is wrong is told; each kind of fault is tried over all lines before the next kind.
-use Rattle.std.specs.Prelude.{◌≡◌, ℕ, zero, suc, ◌+◌, ◌-◌, ◌==◌, if◌then◌else◌, List, [], ◌∷◌, map, length, Option, Some, None, Result, Ok, Err, ℤ, pos, ◌-ℤ◌}
+use Rattle.std.specs.Prelude.{◌≡◌, ℕ, zero, suc, ◌+◌, ◌-◌, if◌then◌else◌, List, [], ◌∷◌, map, length, Option, Some, None, Result, Ok, Err, ℤ, pos, ◌-ℤ◌}
 use Rattle.std.specs.Option.{option_map}
 use Rattle.std.specs.Str.{bytes_eq}
 use Rattle.alpha_words.specs.declared.insn.Insn.{Insn}
@@ -18,7 +18,7 @@ use Rattle.term_table.specs.Tree.{Tree}
 use Rattle.lf_encode.specs.Contexts.{machine_context, encoding_in}
 use Rattle.proof_container.specs.declared.container.Head.{Head}
 use Rattle.proof_container.specs.declared.container.Head.TheVariants.{Number, Digest}
-use Rattle.proof_container.specs.Versions.{profile_of}
+use Rattle.proof_container.specs.Versions.{is_numbered, profile_of}
 use Rattle.proof_container.specs.Contents.{Contents}
 use Rattle.asm_text.specs.Insns.{SourceInsn, Plain, BranchTo, BrTo}
 use Rattle.asm_text.specs.Sources.{Source}
@@ -58,10 +58,9 @@ pub record IsAssembled (p : Profile) (s : Source) (insns : List Insn) : Type 0 w
   pub code : IsCode insns
   pub profile : AreOfProfile p insns
 
--- what names the policy in a container of the version: the policy's number, or the digest of its
--- text
+-- what names the policy in a container of the version: its number, or the digest of its text
 abbrev pub head_for : ℕ → PolicyView → Head
-head_for v policy = if v == 1 then Number (policy_number policy) else Digest (digest_of policy)
+head_for v policy = if is_numbered v then Number (policy_number policy) else Digest (digest_of policy)
 
 -- The contents are those of the source for the policy in the version, with the bound: words that
 -- encode its instructions, the encodings of its invariants, no lemmas and no proof.

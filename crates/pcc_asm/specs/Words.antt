@@ -8,7 +8,7 @@ use Rattle.alpha_words.specs.declared.insn.Format.TheVariants.{Memory, Operate, 
 use Rattle.alpha_words.specs.MemoryOps.{memory_opcode}
 use Rattle.alpha_words.specs.Formats.{format_of}
 use Rattle.alpha_words.specs.Encoding.{memory_word, branch_word, operate_word}
-use Rattle.alpha_words.specs.Opcodes.{cond_opcode_of}
+use Rattle.alpha_words.specs.Conditions.{cond_opcode_of}
 
 -- of the words that encode what has a format, the one that is written: a return has hint 1
 -- Alpha Architecture Handbook, "Instruction Formats"

@@ -18,7 +18,7 @@ use crate::resolving::resolve_all;
 use crate::words::bytes_of;
 use asm_text::Source;
 use policy_set::{Policy, digest};
-use proof_container::{Head, profile_of, signature_of};
+use proof_container::{Head, is_numbered, profile_of, signature_of};
 use std::alloc::{AllocError, Global};
 use term_table::Table;
 use word_ops::Profile;
@@ -48,7 +48,7 @@ fn head_for(alloc: Global, policy: &Policy, version: u32) -> Result<Head, AllocE
     ensures exact { IfOk result (λ h. h ≡ head_for version policy.now) }
     ensures lawful { IfOk result (IsHead version) }
 {
-    if version == 1 {
+    if is_numbered(version) {
         Ok(Head::Number(policy.number()))
     } else {
         let made = digest(alloc, policy)?;

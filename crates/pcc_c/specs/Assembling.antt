@@ -1,10 +1,11 @@
 -- The container that a source is assembled into.
-use Rattle.std.specs.Prelude.{◌≡◌, ◌≤◌, ℕ, ◌==◌, ◌&&◌, ◌||◌, nat_lt, nat_le, if◌then◌else◌, List, length, Option, Some, None, is_some, Result, Ok, Err}
+use Rattle.std.specs.Prelude.{◌≡◌, ◌≤◌, ℕ, Bool, not, ◌==◌, ◌&&◌, nat_lt, nat_le, if◌then◌else◌, List, length, Option, Some, None, is_some, Result, Ok, Err}
 use Rattle.term_table.specs.Steps.{◌>>=◌}
 use Rattle.policy_set.specs.Views.{PolicyView}
 use Rattle.proof_container.specs.Contents.{Contents}
 use Rattle.proof_container.specs.Encoding.{encoding_of}
-use Rattle.proof_container.specs.Versions.{profile_of}
+use Rattle.lf_signature.specs.declared.editions.TheConstants.{MAX_VERSION}
+use Rattle.proof_container.specs.Versions.{is_bounded, profile_of}
 use Rattle.proof_container.specs.declared.limits.TheConstants.{MAX_BOUND}
 use Rattle.asm_text.specs.Sources.{Source, SpellsSource}
 use Rattle.asm_text.specs.SourceParsing.{parsed_source}
@@ -19,11 +20,17 @@ use Rattle.pcc_c.specs.Policies.{policy_for}
 
 -- ---- the answer
 
--- the step bound, where 0 says that there is none: version 3 has one, and no other version
+-- whether there is such a version
+abbrev pub is_version : ℕ → Bool
+is_version version = nat_le 1 version && nat_le version MAX_VERSION
+
+-- the step bound, where 0 says that there is none: a version that bounds the steps has one, and no
+-- other version
 abbrev pub bound_given : ℕ → ℕ → Result (Option ℕ) Reason
 bound_given version bound =
-    if version == 3 && nat_lt 0 bound && nat_le bound MAX_BOUND then Ok (Some bound) else
-    if (version == 1 || version == 2 || version == 4) && bound == 0 then Ok None else
+    if not (is_version version) then Err reason.BadVersion else
+    if is_bounded version && nat_lt 0 bound && nat_le bound MAX_BOUND then Ok (Some bound) else
+    if not (is_bounded version) && bound == 0 then Ok None else
     Err reason.BadVersion
 
 -- what was read as a source

@@ -1,6 +1,7 @@
 -- The policy that bytes give, and its digest.
-use Rattle.std.specs.Prelude.{ℕ, nat_lt, ◌==◌, if◌then◌else◌, List, Option, Some, None, Result, Ok, Err}
+use Rattle.std.specs.Prelude.{ℕ, nat_lt, if◌then◌else◌, List, Option, Some, None, Result, Ok, Err}
 use Rattle.term_table.specs.Steps.{◌>>=◌}
+use Rattle.proof_container.specs.Versions.{is_numbered}
 use Rattle.policy_set.specs.Views.{PolicyView}
 use Rattle.policy_set.specs.Names.{policy_of}
 use Rattle.policy_set.specs.Digest.{digest_of}
@@ -36,10 +37,10 @@ abbrev pub built_in_policy : Option PolicyView → Result PolicyView Reason
 built_in_policy (Some policy) = Ok policy
 built_in_policy None = Err reason.UnknownPolicy
 
--- the policy for a container of the version: version 1 has a number for it, so it is built in
+-- the policy for a container of the version: one that a number names is built in
 abbrev pub policy_for : ℕ → List ℕ → Result PolicyView Reason
 policy_for version bytes =
-    if version == 1 then built_in_policy (policy_of bytes) else policy_given bytes
+    if is_numbered version then built_in_policy (policy_of bytes) else policy_given bytes
 
 -- what `pcc_policy` makes: the digest of the policy that the bytes give
 abbrev pub digest_answer : List ℕ → Result (List ℕ) Reason

@@ -10,7 +10,7 @@ ghost use Rattle.pcc_asm.specs.Assembling.{Assembles, assembled_contents};
 ghost use Rattle.pcc_asm.specs.Views.{IsSpelled};
 ghost use Rattle.pcc_c.specs.declared.statuses.TheConstants.{DONE, BAD_SOURCE};
 ghost use Rattle.pcc_c.specs.Statuses.{IsNoMemory};
-ghost use Rattle.pcc_c.specs.Assembling.{bound_given, source_given, container_written, asm_answer};
+ghost use Rattle.pcc_c.specs.Assembling.{is_version, bound_given, source_given, container_written, asm_answer};
 ghost use Rattle.pcc_c.specs.Assembling.{IsContainerOf, IsAssemblyFor, HasNoAssembly};
 ghost use Rattle.pcc_c.specs.Buffers.{AnswersIn};
 ghost use Rattle.pcc_c.specs.Inside.Answers.{IsDue, IfAt};
@@ -22,8 +22,15 @@ use crate::reason::Reason;
 use asm_text::{LineFault, MAX_SOURCE, Source, read_source};
 use pcc_asm::{AsmFault, assemble};
 use policy_set::Policy;
-use proof_container::{MAX_BOUND, profile_of, write};
+use proof_container::{MAX_BOUND, MAX_VERSION, is_bounded, profile_of, write};
 use std::alloc::Global;
+
+/// Checks whether there is such a version of containers.
+fn is_version(version: u32) -> bool
+    ensures { result ≡ is_version version }
+{
+    1 <= version && version <= MAX_VERSION
+}
 
 /// Returns the step bound for a container of the version, where 0 says that there is none. Errors:
 /// `BadVersion`, if there is no such version, or it may not have this bound.
@@ -31,10 +38,13 @@ fn bound_given(version: u32, bound: u32) -> Result<Option<u32>, Reason>
     ensures exact { result ≡ bound_given version bound }
     ensures fits { IfOk result (λ steps. IsVersion version × IsBoundOf version steps) }
 {
-    if version == 3 && 0 < bound && bound <= MAX_BOUND {
+    if !is_version(version) {
+        return Err(Reason::BadVersion);
+    }
+    if is_bounded(version) && 0 < bound && bound <= MAX_BOUND {
         return Ok(Some(bound));
     }
-    if (version == 1 || version == 2 || version == 4) && bound == 0 {
+    if !is_bounded(version) && bound == 0 {
         return Ok(None);
     }
     Err(Reason::BadVersion)

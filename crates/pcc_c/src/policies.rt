@@ -1,7 +1,7 @@
 //! The policy that bytes give, and its digest.
 
 ghost use Rattle.std.specs.Prelude.{◌≡◌, IfOk, take};
-ghost use Rattle.policy_set.specs.Names.{kind_of, policy_of};
+ghost use Rattle.policy_set.specs.Names.{policy_of};
 ghost use Rattle.pcc_c.specs.Statuses.{IsNoMemory};
 ghost use Rattle.pcc_c.specs.Policies.{policy_reason, policy_given, policy_for, digest_answer};
 ghost use Rattle.pcc_c.specs.Buffers.{AnswersIn};
@@ -11,29 +11,14 @@ use crate::buffers::tell;
 use crate::fault::Fault;
 use crate::reason::Reason;
 use policy_set::{Policy, PolicyFault, PolicyFlaw, PolicyKind, digest, read_policy};
+use proof_container::is_numbered;
 use std::alloc::{AllocError, Global};
-
-/// Returns the kind of built-in policy with this name, or None.
-fn kind_given(name: &[u8]) -> Option<PolicyKind>
-    ensures { result ≡ kind_of name.now }
-{
-    if name == b"filter".as_slice() {
-        return Some(PolicyKind::Filter);
-    }
-    if name == b"tag".as_slice() {
-        return Some(PolicyKind::Tag);
-    }
-    if name == b"table".as_slice() {
-        return Some(PolicyKind::Table);
-    }
-    None
-}
 
 /// Returns the built-in policy with this name, or None. Errors: out of memory.
 fn policy_named(alloc: Global, name: &[u8]) -> Result<Option<Policy>, AllocError>
     ensures { IfOk result (λ found. found ≡ policy_of name.now) }
 {
-    match kind_given(name) {
+    match PolicyKind::named(name) {
         Some(kind) => Ok(Some(Policy::of(alloc, kind)?)),
         None => Ok(None),
     }
@@ -72,12 +57,12 @@ pub fn policy_given(alloc: Global, given: &[u8]) -> Result<Policy, Fault>
     }
 }
 
-/// Returns the policy that the bytes give for a container of the version; version 1 takes names
-/// alone. Errors: they give none, or out of memory.
+/// Returns the policy that the bytes give for a container of the version; one whose policy a number
+/// names takes names alone. Errors: they give none, or out of memory.
 pub fn policy_for(alloc: Global, version: u32, given: &[u8]) -> Result<Policy, Fault>
     ensures { IsDue ⊥ (λ policy. policy) (policy_for version given.now) result }
 {
-    if version != 1 {
+    if !is_numbered(version) {
         return policy_given(alloc, given);
     }
     match policy_named(alloc, given)? {

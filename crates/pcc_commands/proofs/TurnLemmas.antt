@@ -1,19 +1,15 @@
 -- Where turns take the agents of a host.
-use Rattle.std.proofs.Common.{◌≡◌, ◌≢◌, ℕ, ◌+◌, ◌%◌, ◌^◌, Bool, true, false, true≢false, List, length, Option, Some, None, refl, sym, ◌∙◌, ap, subst, inl, inr}
-use Rattle.std.proofs.lemmas.Bool.{cases_lt, lt-ltb, le-ltb}
-use Rattle.std.proofs.lemmas.Option.{none-some}
+use Rattle.std.proofs.Common.{◌≡◌, ◌≢◌, ℕ, ◌+◌, ◌%◌, ◌^◌, Bool, true, false, true≢false, List, Some, refl, sym, ◌∙◌, ap, subst}
 use Rattle.word_ops.specs.Memory.{Memory}
 use Rattle.alpha_words.specs.declared.insn.Insn.{Insn}
 use Rattle.alpha_cfg.specs.Machine.{State, run_of}
 use Rattle.alpha_cfg.specs.declared.outcome.Outcome.{Outcome}
 use Rattle.alpha_cfg.specs.declared.outcome.Outcome.TheVariants as outcomes
 use Rattle.alpha_cfg.proofs.Joining.{run-behind}
-use Rattle.policy_set.specs.declared.kind.PolicyKind.{PolicyKind}
-use Rattle.policy_set.specs.declared.kind.PolicyKind.TheVariants.{Filter, Tag, Table}
 use Rattle.reference_machine.specs.Arena.{map_of, sum_of}
 use Rattle.reference_machine.specs.Starts.{StartView, start_state}
-use Rattle.packet_store.specs.PolicyStarts.{start_from, filter_start, tag_start, table_start}
-use Rattle.packet_store.proofs.StartLemmas.{the_same}
+use Rattle.packet_store.specs.PolicyStarts.{start_from}
+use Rattle.packet_store.proofs.StartLemmas.{start_from-sum}
 use Rattle.host_steps.specs.declared.ended.Ended.{Ended}
 use Rattle.host_steps.specs.declared.ended.Ended.TheVariants as ended
 use Rattle.host_steps.specs.RunEnds.{outcome_of}
@@ -144,24 +140,6 @@ turn-loaded budget was is (turned.Returned word) loaded t e = after-loaded (ende
 turn-loaded budget was is turned.OutOfSteps loaded t e = after-loaded ended.OutOfSteps (sym (ap (λ (h : HostedView). h.phase) t.kept) ∙ e)
 turn-loaded budget was is turned.Done loaded t e = loaded (sym (ap (λ (h : HostedView). h.phase) t.1) ∙ e)
 
--- where the region isn't empty it is at the part's front
-sum-front : (base : ℕ) (kind : Option PolicyKind) (packet : List ℕ) (setup : StartView)
-    (m : Memory) → start_from base kind packet ≡ Some setup
-    → sum_of m base setup.region ≡ sum_of m setup.at setup.region
-unfolding start_from
-sum-front base None packet setup m e = absurd (none-some setup e)
-sum-front base (Some Filter) packet setup m e = elim (cases_lt (length packet) 64) [
-  | inl less ↦ let none : None ≡ Some setup = rw (lt-ltb (length packet) 64 less) at e in absurd (cc)
-  | inr enough ↦ the_same (λ s. sum_of m base s.region ≡ sum_of m s.at s.region) (filter_start base packet) setup refl (rw (le-ltb (length packet) 64 enough) at e)
-]
-sum-front base (Some Tag) packet setup m e = elim (cases_lt (length packet) 16) [
-  | inl less ↦ let none : None ≡ Some setup = rw (lt-ltb (length packet) 16 less) at e in absurd (cc)
-  | inr enough ↦ the_same (λ s. sum_of m base s.region ≡ sum_of m s.at s.region) (tag_start base packet) setup refl (rw (le-ltb (length packet) 16 enough) at e)
-]
-sum-front base (Some Table) packet setup m e =
-    the_same (λ s. sum_of m base s.region ≡ sum_of m s.at s.region) (table_start base packet) setup
-    refl e
-
 -- the sum of the region where an agent stands
 pub stands-sum : (a : ℕ) (agent : Member) (setup : StartView) (n sum : ℕ) (q : HostedView)
     → start_from (base_of a) agent.policy.kind agent.packet ≡ Some setup
@@ -171,5 +149,5 @@ stands-sum a agent setup n sum q starts s is =
     let m : Memory = map_of q.base q.words in
     let memory : (alone a agent setup n).1.memory ≡ m = ap (λ (x : State). x.memory) s.state in
     is ∙ ap (λ b. sum_of m b q.region % 2 ^ 64) s.base ∙ ap (λ k. sum_of m (base_of a) k % 2 ^ 64) s.region
-    ∙ ap (λ x. x % 2 ^ 64) (sum-front (base_of a) agent.policy.kind agent.packet setup m starts)
+    ∙ ap (λ x. x % 2 ^ 64) (start_from-sum (base_of a) agent.policy.kind agent.packet setup m starts)
     ∙ ap (λ (l : Memory). sum_of l setup.at setup.region % 2 ^ 64) (sym memory)

@@ -1,6 +1,7 @@
 -- Versions that `asm` makes, and their bounds.
-use Rattle.std.proofs.Common.{ℕ, Option, Some, None, arith}
-use Rattle.proof_container.specs.Versions.{IsVersion, IsBoundOf}
+use Rattle.std.proofs.Common.{◌≡◌, ℕ, true, Option, Some, None, refl, sym, subst, arith}
+use Rattle.proof_container.specs.Versions.{is_bounded, IsVersion, IsBoundOf}
+use Rattle.proof_container.proofs.Bounded.{unbounded}
 use Rattle.pcc_words.specs.Commands.{IsVersionOf}
 
 -- the version that `asm` makes is one that is built
@@ -11,5 +12,5 @@ built-version (Some n) version h = let is = h.0 in (omega (arith, is), omega (ar
 -- and its bound is one that the version may have
 pub bound-in-range : (bound : Option ℕ) (version : ℕ) → IsVersionOf bound version
     → IsBoundOf version bound
-bound-in-range None version h = λ is. omega (arith, h.1, is)
-bound-in-range (Some n) version h = h
+bound-in-range None version h = unbounded version h.1
+bound-in-range (Some n) version h = (subst (λ v. is_bounded v ≡ true) (sym h.0) refl, h.1, h.2)

@@ -1,6 +1,6 @@
 -- A worked container with a bound on its steps is accepted, clause by clause: its code is a load and
 -- a return, and its bound the two steps that they are.
-use Rattle.std.proofs.Common.{◌≡◌, ◌≢◌, ℕ, ◌≤◌, Bool, true, List, [], ◌∷◌, length, Some, None, refl, sym, subst, arith}
+use Rattle.std.proofs.Common.{◌≡◌, ℕ, ◌≤◌, Bool, true, List, [], ◌∷◌, length, Some, None, refl, sym, subst, arith}
 use Rattle.std.specs.Prelude.{nat_le}
 use Rattle.std.proofs.lemmas.Bool.{leb-true}
 use Rattle.std.proofs.lemmas.Option.{none-some}
@@ -16,7 +16,7 @@ use Rattle.lf_terms.specs.Encoding.{form_encoding}
 use Rattle.lf_terms.specs.ProofTerms.{tt_i, and_i, and_l, imp_i, all_i, move, swap, calc, fact}
 use Rattle.lf_encode.specs.Contexts.{machine_names}
 use Rattle.lf_signature.specs.Constants.{declared, constant_types, the_rules}
-use Rattle.lf_signature.specs.declared.WordSignature.TheVariants.{Sigma3}
+use Rattle.lf_signature.specs.declared.editions.WordSignature.TheVariants.{Sigma3}
 use Rattle.lf_signature.specs.Terms.{pf}
 use Rattle.lf_signature.specs.Typing.{Checks}
 use Rattle.lf_signature.specs.Decide.{checks_of}
@@ -122,13 +122,10 @@ terms_ready : are_ready 3 (roots contents) ≡ true
 unfolding whole_proof
 terms_ready = refl
 
-three : ◌≢◌ {A = ℕ} 3 1
-three e = omega (arith, e)
-
 is_contents : IsContents contents
 is_contents = record {
   version = (omega arith, omega arith);
-  head = digest-head (built_in Tag) 3 three;
+  head = digest-head (built_in Tag) 3 refl;
   bound = (refl, omega arith, omega arith);
   bytes = bytes_from load_bytes refl;
   whole = refl;
@@ -142,7 +139,7 @@ is_contents = record {
 }
 
 head_size : length (policy_bytes contents.head) ≡ 32
-head_size = (digest-head (built_in Tag) 3 three).1
+head_size = (digest-head (built_in Tag) 3 refl).1
 
 one_bound : length (bound_fields contents.bound) ≡ 1
 one_bound = refl

@@ -1,6 +1,6 @@
 -- The worked container in version 2 is accepted, clause by clause: the policy's digest stands in
 -- place of its number, and what it holds else is the same.
-use Rattle.std.proofs.Common.{◌≡◌, ◌≢◌, ℕ, ◌≤◌, true, [], ◌∷◌, length, Some, None, refl, sym, subst, arith}
+use Rattle.std.proofs.Common.{◌≡◌, ◌≤◌, true, [], ◌∷◌, length, Some, None, refl, sym, subst, arith}
 use Rattle.std.specs.Prelude.{nat_le}
 use Rattle.std.proofs.lemmas.Bool.{leb-true}
 use Rattle.std.proofs.lemmas.Option.{none-some}
@@ -11,7 +11,7 @@ use Rattle.alpha_cfg.proofs.Deciding.{uncut_none}
 use Rattle.lf_terms.specs.Encoding.{form_encoding}
 use Rattle.lf_encode.specs.Contexts.{machine_context, machine_names, sort_types}
 use Rattle.lf_signature.specs.Constants.{declared, constant_types, the_rules}
-use Rattle.lf_signature.specs.declared.WordSignature.TheVariants.{Sigma2}
+use Rattle.lf_signature.specs.declared.editions.WordSignature.TheVariants.{Sigma2}
 use Rattle.lf_signature.specs.Terms.{form, pf}
 use Rattle.lf_signature.specs.Typing.{Checks}
 use Rattle.lf_signature.specs.Decide.{checks_of}
@@ -62,14 +62,11 @@ terms_ready : are_ready 2 (roots contents) ≡ true
 unfolding whole_proof
 terms_ready = refl
 
-two : ◌≢◌ {A = ℕ} 2 1
-two e = omega (arith, e)
-
 is_contents : IsContents contents
 is_contents = record {
   version = (omega arith, omega arith);
-  head = digest-head (built_in Tag) 2 two;
-  bound = λ e. omega (arith, e);
+  head = digest-head (built_in Tag) 2 refl;
+  bound = refl;
   bytes = code_is_bytes;
   whole = refl;
   some = omega arith;
@@ -82,7 +79,7 @@ is_contents = record {
 }
 
 head_size : length (policy_bytes contents.head) ≡ 32
-head_size = (digest-head (built_in Tag) 2 two).1
+head_size = (digest-head (built_in Tag) 2 refl).1
 
 no_bound : length (bound_fields contents.bound) ≡ 0
 no_bound = refl

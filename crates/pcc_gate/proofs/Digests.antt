@@ -1,5 +1,5 @@
 -- A digest is thirty-two bytes.
-use Rattle.std.proofs.Common.{◌≡◌, ◌≢◌, ℕ, zero, suc, ◌-◌, ◌<◌, ◌≤◌, ◌⊎◌, inl, inr, List, ◌++◌, length, get_or, refl, sym, subst, arith}
+use Rattle.std.proofs.Common.{◌≡◌, ℕ, zero, suc, ◌-◌, ◌<◌, ◌≤◌, ◌⊎◌, inl, inr, false, List, ◌++◌, length, get_or, refl, sym, subst, arith}
 use Rattle.std.proofs.lemmas.Bool.{cases_lt}
 use Rattle.std.proofs.lemmas.List.{get_or_append_left, get_or-append_right}
 use Rattle.std.proofs.Math.Nat.{mod-lt}
@@ -10,7 +10,7 @@ use Rattle.sha2.proofs.Facts256.{length-sha256}
 use Rattle.term_table.specs.Bytes.{IsBytes}
 use Rattle.policy_set.specs.Views.{PolicyView}
 use Rattle.policy_set.specs.Digest.{policy_text, digest_of}
-use Rattle.proof_container.specs.Versions.{IsHead}
+use Rattle.proof_container.specs.Versions.{is_numbered, IsHead}
 use Rattle.proof_container.specs.declared.container.Head.TheVariants.{Digest}
 
 byte-low : (i n : ℕ) → byte_at i n < 256
@@ -42,8 +42,8 @@ sha256-bytes : (m : List ℕ) → IsBytes (sha256 m)
 unfolding sha256
 sha256-bytes m = digest-bytes _ 8
 
--- the digest of a policy names it in a container of a later version
-pub digest-head : (policy : PolicyView) (version : ℕ) → version ≢ 1
+-- the digest of a policy names it in a container of a version where no number does
+pub digest-head : (policy : PolicyView) (version : ℕ) → is_numbered version ≡ false
     → IsHead version (Digest (digest_of policy))
 digest-head policy version later =
     (later, length-sha256 (policy_text policy), sha256-bytes (policy_text policy))

@@ -6,7 +6,7 @@ use Rattle.alpha_words.specs.declared.insn.Insn.{Insn}
 use Rattle.policy_set.specs.Views.{PolicyView}
 use Rattle.term_table.specs.Tree.{Tree, Const}
 use Rattle.term_table.specs.Measures.{capped}
-use Rattle.lf_signature.specs.Constants.{declared}
+use Rattle.lf_signature.specs.Constants.{declared, operators_of}
 use Rattle.lf_signature.specs.Terms.{pf}
 use Rattle.lf_lemmas.specs.Lemmas.{formulas_of, with_lemmas}
 use Rattle.lf_lemmas.specs.Checking.{LemmasCheck}
@@ -34,15 +34,14 @@ use Rattle.pcc_gate.specs.Refusals.{HasProof, HasLightProof, HasProvedLemmas, Is
 use Rattle.pcc_gate.specs.Weights.{proof_weight}
 use Rattle.pcc_gate.proofs.Searches.{past, within, not-true, proved_none, first_no_proof, proofs_decided}
 use Rattle.pcc_gate.proofs.FirstFront.{told, after_all, front_finds, front_decided}
-use Rattle.lf_signature.specs.declared.WordSignature.{WordSignature}
-use Rattle.lf_signature.specs.declared.WordSignature.TheVariants.{Sigma1}
+use Rattle.lf_signature.specs.declared.editions.WordSignature.{WordSignature}
 use Rattle.proof_container.specs.Versions.{signature_of}
 use Rattle.std.proofs.lemmas.List.Elements.{All-nil, All-cons}
 use Rattle.lf_signature.specs.Known.{HasOp}
-use Rattle.lf_signature.specs.Laws.Within.{declared_known, declared-first}
+use Rattle.lf_signature.specs.Laws.Within.{declared_known, declared-has}
 use Rattle.formula_tree.specs.Operators.{Uses}
 use Rattle.formula_tree.proofs.Used.{uses-more}
-use Rattle.word_ops.specs.Operators.{IsFirstOp}
+use Rattle.word_ops.specs.Operators.{has_op}
 
 -- ---- the condition's term
 
@@ -75,17 +74,17 @@ pub vc_of-encodes : (s : WordSignature) (policy : PolicyView) (bound : Option �
 vc_of-encodes s policy bound code ps h =
     record { formulas = formulas ps; encoded = formulas-encoded s bound ps h; is = refl }
 
--- the operators of those over the first signature are the first profile's
-pub formulas-first : (bound : Option ℕ) (ps : List (ℕ × Tree)) → AreForms Sigma1 bound ps
-    → All (λ q. Uses IsFirstOp q.1) (formulas ps)
-formulas-first bound [] h = All-nil (λ (q : ℕ × Form). Uses IsFirstOp q.1)
-formulas-first bound (p ∷ ps) h =
-    let f = form_encoded (declared Sigma1) (declared_known Sigma1) (context_of bound) p.1 h.0 in
-    let used = subst (λ F. Uses (HasOp (declared Sigma1)) F)
+-- the operators of those over a signature are its profile's
+pub formulas-used : (s : WordSignature) (bound : Option ℕ) (ps : List (ℕ × Tree)) → AreForms s bound ps
+    → All (λ q. Uses (λ o. has_op (operators_of s) o ≡ true) q.1) (formulas ps)
+formulas-used s bound [] h = All-nil (λ (q : ℕ × Form). Uses (λ o. has_op (operators_of s) o ≡ true) q.1)
+formulas-used s bound (p ∷ ps) h =
+    let f = form_encoded (declared s) (declared_known s) (context_of bound) p.1 h.0 in
+    let used = subst (λ F. Uses (HasOp (declared s)) F)
     (sym (formula_of-encoding bound p.1 f.0 f.1)) f.2 in
-    All-cons (λ (q : ℕ × Form). Uses IsFirstOp q.1) (p.0, formula_of p.1) (formulas ps)
-    (uses-more (HasOp (declared Sigma1)) IsFirstOp declared-first (formula_of p.1) used)
-    (formulas-first bound ps h.1)
+    All-cons (λ (q : ℕ × Form). Uses (λ o. has_op (operators_of s) o ≡ true) q.1) (p.0, formula_of p.1) (formulas ps)
+    (uses-more (HasOp (declared s)) (λ o. has_op (operators_of s) o ≡ true) (declared-has s) (formula_of p.1) used)
+    (formulas-used s bound ps h.1)
 
 -- ---- whether it is proved
 

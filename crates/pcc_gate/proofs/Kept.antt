@@ -7,7 +7,7 @@ use Rattle.term_table.specs.Tree.{Tree, Fam}
 use Rattle.term_table.specs.Table.{TableView, IsKnown, AllKnown, tree_at, put_last, ctx_of, Extends, id_trees}
 use Rattle.lf_signature.specs.Nodes.{IsIdOf}
 use Rattle.lf_signature.specs.Constants.{declared}
-use Rattle.lf_signature.specs.declared.WordSignature.{WordSignature}
+use Rattle.lf_signature.specs.declared.editions.WordSignature.{WordSignature}
 use Rattle.lf_lemmas.specs.Lemmas.{formulas_of, AreFormulas}
 use Rattle.lf_lemmas.specs.Tables.{lemmas_in, LemmasKnown, HoldsLemmas}
 use Rattle.lf_lemmas.specs.Laws.Lawful.{lemmas_hold}

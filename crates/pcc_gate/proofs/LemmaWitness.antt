@@ -1,6 +1,6 @@
 -- A worked container with a lemma, which the proof cites, is accepted, clause by clause: the code is
 -- that of the container without, and what its proof says of the loop is the lemma.
-use Rattle.std.proofs.Common.{◌≡◌, ◌≢◌, ℕ, zero, suc, ◌≤◌, true, false, List, [], ◌∷◌, length, Some, None, refl, subst, arith}
+use Rattle.std.proofs.Common.{◌≡◌, zero, suc, ◌≤◌, true, false, List, [], ◌∷◌, length, Some, None, refl, subst, arith}
 use Rattle.std.specs.Prelude.{nat_le}
 use Rattle.std.proofs.lemmas.Bool.{leb-true}
 use Rattle.std.proofs.lemmas.Option.{none-some}
@@ -13,7 +13,7 @@ use Rattle.lf_terms.specs.Encoding.{form_encoding}
 use Rattle.lf_terms.specs.ProofTerms.{tt_i, and_i}
 use Rattle.lf_encode.specs.Contexts.{machine_context, machine_names, sort_types}
 use Rattle.lf_signature.specs.Constants.{declared, constant_types, the_rules}
-use Rattle.lf_signature.specs.declared.WordSignature.TheVariants.{Sigma2}
+use Rattle.lf_signature.specs.declared.editions.WordSignature.TheVariants.{Sigma2}
 use Rattle.lf_signature.specs.Terms.{form, pf}
 use Rattle.lf_signature.specs.Typing.{Checks}
 use Rattle.lf_signature.specs.Decide.{checks_of}
@@ -87,14 +87,11 @@ terms_ready : are_ready 4 (roots contents) ≡ true
 unfolding lemma_proof citing_proof
 terms_ready = refl
 
-four : ◌≢◌ {A = ℕ} 4 1
-four e = omega (arith, e)
-
 is_contents : IsContents contents
 is_contents = record {
   version = (omega arith, omega arith);
-  head = digest-head (built_in Tag) 4 four;
-  bound = λ e. omega (arith, e);
+  head = digest-head (built_in Tag) 4 refl;
+  bound = refl;
   bytes = code_is_bytes;
   whole = refl;
   some = omega arith;
@@ -107,7 +104,7 @@ is_contents = record {
 }
 
 head_size : length (policy_bytes contents.head) ≡ 32
-head_size = (digest-head (built_in Tag) 4 four).1
+head_size = (digest-head (built_in Tag) 4 refl).1
 
 no_bound : length (bound_fields contents.bound) ≡ 0
 no_bound = refl

@@ -7,7 +7,7 @@ use Rattle.alpha_words.specs.declared.insn.Insn.{Insn}
 use Rattle.policy_set.specs.Views.{PolicyView}
 use Rattle.term_table.specs.Bytes.{IsBytes}
 use Rattle.term_table.specs.Measures.{capped}
-use Rattle.lf_signature.specs.declared.WordSignature.{WordSignature}
+use Rattle.lf_signature.specs.declared.editions.WordSignature.{WordSignature}
 use Rattle.proof_container.specs.Contents.{Contents}
 use Rattle.proof_container.specs.Versions.{signature_of}
 use Rattle.pcc_gate.specs.declared.limits.TheConstants.{MAX_WEIGHT}

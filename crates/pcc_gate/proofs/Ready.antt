@@ -1,7 +1,7 @@
 -- Terms and bytes of worked containers, by tests that compute.
-use Rattle.std.proofs.Common.{◌≡◌, ℕ, zero, suc, ◌+◌, ◌*◌, ◌^◌, ◌<◌, ◌≤◌, Bool, true, false, cond, eqb, List, [], ◌∷◌, ◌++◌, length, arith, length-append}
+use Rattle.std.proofs.Common.{◌≡◌, ℕ, zero, suc, ◌+◌, ◌*◌, ◌^◌, ◌<◌, ◌≤◌, Bool, true, false, cond, List, [], ◌∷◌, ◌++◌, length, arith, length-append}
 use Rattle.std.specs.Prelude.{◌&&◌, nat_lt, sum_by}
-use Rattle.std.proofs.lemmas.Bool.{ltb-true, eqb-true, and_parts, false≢true}
+use Rattle.std.proofs.lemmas.Bool.{ltb-true, and_parts, false≢true}
 use Rattle.std.proofs.lemmas.List.Sums.{sum_by-cons}
 use Rattle.term_table.specs.Bytes.{IsBytes}
 use Rattle.term_table.specs.Tree.{Tree, Const, Var, Con, App, Lam, Fam, TApp, Pi, Num, Lit, Calc, Fact, Deny, Lemma, IsAtomic}
@@ -9,6 +9,7 @@ use Rattle.term_table.specs.Table.{IsSmall, IsSmallConst}
 use Rattle.proof_container.specs.Encoding.{IsEntryTerm, AreTerms}
 use Rattle.proof_container.specs.Postorder.{is_emitted, unless_emitted, emitted_with, emitted_with_all, entries}
 use Rattle.proof_container.specs.Decoding.{entry_size}
+use Rattle.proof_container.specs.Versions.{has_lemmas}
 use Rattle.proof_container.specs.Inside.Walked.{nodes}
 
 -- ---- terms
@@ -17,7 +18,7 @@ use Rattle.proof_container.specs.Inside.Walked.{nodes}
 abbrev is_small_const : ℕ → Const → Bool
 is_small_const v (Num n) = nat_lt n (2 ^ 32)
 is_small_const v (Lit w) = nat_lt w (2 ^ 64)
-is_small_const v (Lemma n) = eqb v 4 && nat_lt n (2 ^ 32)
+is_small_const v (Lemma n) = has_lemmas v && nat_lt n (2 ^ 32)
 is_small_const v (Calc o a b) = nat_lt o (2 ^ 32) && (nat_lt a (2 ^ 64) && nat_lt b (2 ^ 64))
 is_small_const v (Fact p a b) = nat_lt p (2 ^ 32) && (nat_lt a (2 ^ 64) && nat_lt b (2 ^ 64))
 is_small_const v (Deny p a b) = nat_lt p (2 ^ 32) && (nat_lt a (2 ^ 64) && nat_lt b (2 ^ 64))
@@ -52,7 +53,7 @@ small_const v (Calc o a b) e = three_small o a b e
 small_const v (Fact p a b) e = three_small p a b e
 small_const v (Deny p a b) e = three_small p a b e
 small_const v (Lemma n) e =
-    ltb-true n (2 ^ 32) (and_parts (eqb v 4) (nat_lt n (2 ^ 32)) e).1
+    ltb-true n (2 ^ 32) (and_parts (has_lemmas v) (nat_lt n (2 ^ 32)) e).1
 
 entry_const : (v : ℕ) (c : Const) → is_small_const v c ≡ true → IsEntryTerm v (Con c)
 entry_const v (Num n) e = tt
@@ -60,7 +61,7 @@ entry_const v (Lit w) e = tt
 entry_const v (Calc o a b) e = tt
 entry_const v (Fact p a b) e = tt
 entry_const v (Deny p a b) e = tt
-entry_const v (Lemma n) e = eqb-true v 4 (and_parts (eqb v 4) (nat_lt n (2 ^ 32)) e).0
+entry_const v (Lemma n) e = (and_parts (has_lemmas v) (nat_lt n (2 ^ 32)) e).0
 
 atomic : (t : Tree) → is_head t ≡ true → IsAtomic t
 atomic (Var n) e = tt

@@ -13,7 +13,7 @@ use Rattle.pcc_gate.specs.declared.fault.GateFault.TheVariants as fault
 use Rattle.pcc_gate.specs.declared.refusal.Refusal.{Refusal}
 use Rattle.pcc_gate.specs.declared.refusal.Refusal.TheVariants as refusal
 use Rattle.pcc_gate.specs.First.{marks_of, too_high, formless, lemma_formless, refused_by, first_long, first_shape}
-use Rattle.lf_signature.specs.declared.WordSignature.{WordSignature}
+use Rattle.lf_signature.specs.declared.editions.WordSignature.{WordSignature}
 pub use Rattle.pcc_gate.proofs.Searches.{not-both}
 use Rattle.pcc_gate.specs.Inside.Stages.{Refuses, IsMade, first_uncut, first_no_form, first_no_formula}
 

@@ -29,7 +29,7 @@ use Rattle.pcc_gate.specs.Accepted.{Accepts}
 use Rattle.pcc_gate.specs.Safe.{ReturnsInBound}
 use Rattle.pcc_gate.specs.WrittenOut.{AcceptsWrittenOut}
 use Rattle.pcc_gate.proofs.WrittenOut.{accepted-written}
-use Rattle.lf_signature.specs.declared.WordSignature.{WordSignature}
+use Rattle.lf_signature.specs.declared.editions.WordSignature.{WordSignature}
 
 -- the formulas of invariants are over m and r0 to r30, and the steps that are left where they are
 -- counted

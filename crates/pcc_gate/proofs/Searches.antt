@@ -24,7 +24,7 @@ use Rattle.vcgen.specs.Encoded.{context_of, AreForms}
 use Rattle.pcc_gate.specs.Passing.{AreLow}
 use Rattle.pcc_gate.specs.First.{has_form, too_high, formless, lemma_formless, lemma_unproved}
 use Rattle.pcc_gate.specs.Refusals.{IsFirstHeight, IsFirstNoForm, IsFirstNoFormula, IsFirstUnproved}
-use Rattle.lf_signature.specs.declared.WordSignature.{WordSignature}
+use Rattle.lf_signature.specs.declared.editions.WordSignature.{WordSignature}
 
 -- ---- a test
 

@@ -13,7 +13,7 @@ use Rattle.pcc_gate.proofs.Safe.{AreSound, bound-fits, accepted-safe, accepted-r
 use Rattle.vcgen.specs.Answers.{AreLowInvs}
 use Rattle.term_table.specs.Tree.{Tree}
 use Rattle.term_table.specs.Measures.{height_of, capped}
-use Rattle.lf_signature.specs.Constants.{declared}
+use Rattle.lf_signature.specs.Constants.{declared, Longest}
 use Rattle.lf_lemmas.specs.Lemmas.{formulas_of, with_lemmas, AreFormulas}
 use Rattle.lf_lemmas.specs.Tables.{lemmas_in, LemmasKnown}
 use Rattle.lf_lemmas.specs.Laws.Lawful.{lemmas_stay}
@@ -47,8 +47,7 @@ use Rattle.pcc_gate.specs.Inside.Passed.{IsRest, IsRestAnswer, IsUntyped, Counts
 use Rattle.pcc_gate.proofs.Searches.{within, none_low, none_forms, none_formulas, none_proved}
 use Rattle.pcc_gate.proofs.FirstFront.{front-none, after_policy, after_all}
 use Rattle.pcc_gate.proofs.Refusing.{refuses-into}
-use Rattle.lf_signature.specs.declared.WordSignature.{WordSignature}
-use Rattle.lf_signature.specs.declared.WordSignature.TheVariants.{Sigma3}
+use Rattle.lf_signature.specs.declared.editions.WordSignature.{WordSignature}
 use Rattle.vcgen.proofs.Encodings.{forms-wider}
 use Rattle.proof_container.specs.Versions.{profile_of, signature_of}
 use Rattle.pcc_gate.specs.Safe.{ReturnsInBound}
@@ -405,7 +404,7 @@ proved-by sound policy kept bytes c cut t u ps grown known is a =
       flags = subst (λ (l : List (ℕ × Tree)). AreFlags (map (λ p. p.0) l) (length cut.code) cut.marks) same a.passes.annotated;
       cuts = a.passes.cut;
       known = known-more t u ps grown known;
-      forms = subst (λ l. AreForms Sigma3 c.bound l) same
+      forms = subst (λ l. AreForms Longest c.bound l) same
           (forms-wider (signature_of c.version) c.bound c.invs a.passes.forms);
       safe = accepted-safe sound policy bytes c cut.code cut.marks kept a;
       returns = accepted-returns sound policy bytes c cut.code cut.marks kept a;

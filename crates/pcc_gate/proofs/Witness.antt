@@ -45,8 +45,8 @@ use Rattle.pcc_gate.proofs.Searches.{none_low}
 use Rattle.pcc_gate.proofs.Ready.{are_ready, all_ready, bytes_from, all_nodes, few_of, all_fields_few}
 use Rattle.pcc_gate.proofs.CodeBytes.{code_decided}
 use Rattle.pcc_gate.proofs.FirstFront.{annotated_flags}
-use Rattle.lf_signature.specs.declared.WordSignature.TheVariants.{Sigma1}
-use Rattle.lf_signature.specs.declared.WordSignature.{WordSignature}
+use Rattle.lf_signature.specs.declared.editions.WordSignature.TheVariants.{Sigma1}
+use Rattle.lf_signature.specs.declared.editions.WordSignature.{WordSignature}
 use Rattle.word_ops.specs.declared.Profile.{Profile}
 use Rattle.word_ops.specs.declared.Profile.TheVariants.{One}
 
@@ -188,7 +188,7 @@ is_contents : IsContents contents
 is_contents = record {
   version = (omega arith, omega arith);
   head = (refl, omega arith);
-  bound = λ e. omega (arith, e);
+  bound = refl;
   bytes = code_is_bytes;
   whole = refl;
   some = omega arith;

@@ -13,9 +13,9 @@ use Rattle.lf_signature.specs.Simply.{simply, SChecks, lam_schecks, atom_schecks
 use Rattle.lf_signature.specs.Order.{IsSignature}
 use Rattle.lf_signature.specs.Terms.{form, pf, truth}
 use Rattle.lf_signature.specs.Constants.{declared, constant_types, the_rules}
-use Rattle.lf_signature.specs.declared.WordSignature.{WordSignature}
-use Rattle.lf_signature.specs.declared.WordSignature.TheVariants.{Sigma1, Sigma2, Sigma3}
-use Rattle.lf_signature.specs.declared.numbers.TheConstants.{FORM, PF, TT}
+use Rattle.lf_signature.specs.declared.editions.WordSignature.{WordSignature}
+use Rattle.lf_signature.specs.declared.numbers.TheConstants.{FORM, PF, TT, TT_I}
+use Rattle.lf_signature.specs.Laws.Within.{declared-below, declared-made, first-rules}
 use Rattle.lf_signature.specs.Laws.Booleans.{both, and_of}
 use Rattle.lf_lemmas.specs.Lemmas.{formulas_of, proofs_of, with_lemmas, AreFormulas}
 use Rattle.lf_lemmas.specs.WrittenOut.{cites_below, inlined, written_behind, written_out}
@@ -168,16 +168,12 @@ module _ (sig : Const → Option Tree) (admits : AdmitsLemmas sig) (forms : List
 
 -- a formula with a proof that is one constant
 truth_form : (s : WordSignature) → declared s (Num TT) ≡ Some form
-unfolding constant_types the_rules
-truth_form Sigma1 = refl
-truth_form Sigma2 = refl
-truth_form Sigma3 = refl
+unfolding constant_types
+truth_form s = declared-made s TT (omega arith)
 
-truth_proof : (s : WordSignature) → declared s (Num 27) ≡ Some (pf truth)
+truth_proof : (s : WordSignature) → declared s (Num TT_I) ≡ Some (pf truth)
 unfolding constant_types the_rules
-truth_proof Sigma1 = refl
-truth_proof Sigma2 = refl
-truth_proof Sigma3 = refl
+truth_proof s = declared-below s TT_I (omega (arith, first-rules s))
 
 module _ (s : WordSignature) (lemmas : List (Tree × Tree))
     (formulas : AreFormulas (declared s) (formulas_of lemmas)) (fit : AllFit lemmas) where
@@ -188,10 +184,10 @@ module _ (s : WordSignature) (lemmas : List (Tree × Tree))
   out t = inlined (proofs_of (written_out lemmas)) t
 
   -- the lemmas by themselves
-  alone : ChecksWithLemmas sig lemmas (Con (Num 27)) truth
-      ↔ ChecksWrittenOut sig lemmas (Con (Num 27)) truth
+  alone : ChecksWithLemmas sig lemmas (Con (Num TT_I)) truth
+      ↔ ChecksWrittenOut sig lemmas (Con (Num TT_I)) truth
   alone =
-      written_out_law sig (words_admit s) lemmas (Con (Num 27)) truth formulas fit
+      written_out_law sig (words_admit s) lemmas (Con (Num TT_I)) truth formulas fit
       (atom_checks (con_synth (truth_form s)) tt)
 
   lemmas_to : LemmasCheck sig lemmas → CiteBackwards lemmas × AllProve sig (written_out lemmas)

@@ -3,7 +3,7 @@ use Rattle.std.specs.Prelude.{ℕ, ◌+◌, List, sum_by}
 use Rattle.term_table.specs.Tree.{Tree}
 use Rattle.term_table.specs.Measures.{weight_of}
 use Rattle.lf_signature.specs.Constants.{places_of}
-use Rattle.lf_signature.specs.declared.WordSignature.{WordSignature}
+use Rattle.lf_signature.specs.declared.editions.WordSignature.{WordSignature}
 
 -- the proofs of lemmas together
 abbrev pub lemmas_weight : WordSignature → List (Tree × Tree) → ℕ

@@ -2,7 +2,7 @@
 -- accepted in version 1, in version 2, and with a lemma in version 4; and in version 3 one whose
 -- code loads and returns within its bound.
 use Rattle.std.specs.Prelude.{◌≡◌, ℕ, false, Bool, List, [], ◌∷◌, Some, pos, negsuc}
-use Rattle.alpha_words.specs.declared.insn.Cond.TheVariants.{Zero}
+use Rattle.alpha_words.specs.declared.conditions.Cond.TheVariants.{Zero}
 use Rattle.alpha_words.specs.declared.insn.Insn.{Insn}
 use Rattle.alpha_words.specs.declared.insn.Insn.TheVariants.{Ldq, Stq, Branch, Br, Ret}
 use Rattle.policy_set.specs.declared.kind.PolicyKind.TheVariants.{Tag}

@@ -3,7 +3,7 @@
 ghost use Rattle.std.specs.Prelude.{◌≡◌};
 ghost use Rattle.std.specs.List.{AllByRecursion};
 ghost use Rattle.term_table.specs.Table.{IsKnown, id_trees};
-ghost use Rattle.lf_signature.specs.declared.WordSignature.TheVariants.{Sigma3};
+ghost use Rattle.lf_signature.specs.Constants.{Longest};
 ghost use Rattle.vcgen.specs.Encoded.{AreForms};
 ghost use Rattle.vcgen.specs.Safety.{IsSafe};
 ghost use Rattle.pcc_gate.specs.Safe.{ReturnsInBound};
@@ -95,7 +95,7 @@ impl Accepted {
     pub fn laws(&self)
         ensures safe { IsSafe self.now.code self.now.policy.pre self.now.policy.post }
         ensures returns { ReturnsInBound self.now.policy self.now.bound self.now.code }
-        ensures forms { AreForms Sigma3 self.now.bound (id_trees self.now.table self.now.invs) }
+        ensures forms { AreForms Longest self.now.bound (id_trees self.now.table self.now.invs) }
         ensures annotates { AreAnnotations self.now }
         ensures valid { IsConditionTrue self.now }
     {

@@ -14,7 +14,7 @@ ghost use Rattle.pcc_gate.specs.Answers.{IsHeld, IsFrontAnswer, IsLemmaFrontAnsw
 ghost use Rattle.pcc_gate.specs.Passing.{Passes};
 ghost use Rattle.pcc_gate.specs.Inside.Stages.{with_roots, AreFormed, IsShapeAnswer, CountsLow};
 ghost use Rattle.pcc_gate.specs.Inside.Passed.{IsRestAnswer, IsPassedAnswer, CountsUntyped};
-ghost use Rattle.lf_signature.specs.declared.WordSignature.{WordSignature};
+ghost use Rattle.lf_signature.specs.declared.editions.WordSignature.{WordSignature};
 ghost use Rattle.hereditary_subst.specs.Limits.{is_limited, NeedsLimit};
 ghost use Rattle.pcc_gate.specs.declared.fault.GateFault.TheVariants.{Results};
 ghost use Rattle.proof_container.specs.Versions.{signature_of};

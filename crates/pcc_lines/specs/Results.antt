@@ -1,11 +1,11 @@
 -- Result lines: what each packet comes to.
-use Rattle.std.specs.Prelude.{ℕ, ◌+◌, List, [], ◌∷◌, ◌++◌, Option, Some, None, codes, decimal}
+use Rattle.std.specs.Prelude.{ℕ, ◌+◌, if◌then◌else◌, List, [], ◌∷◌, ◌++◌, Option, Some, None, codes, decimal}
 use Rattle.alpha_cfg.specs.declared.outcome.Kind.{Kind}
 use Rattle.alpha_cfg.specs.declared.outcome.Kind.TheVariants.{Load, Store}
 use Rattle.alpha_cfg.specs.declared.outcome.Outcome.{Outcome}
 use Rattle.alpha_cfg.specs.declared.outcome.Outcome.TheVariants.{Returned, OutOfSteps, Blocked}
 use Rattle.policy_set.specs.declared.kind.PolicyKind.{PolicyKind}
-use Rattle.policy_set.specs.declared.kind.PolicyKind.TheVariants.{Filter, Tag, Table}
+use Rattle.policy_set.specs.Policies.{kind_has_sum}
 use Rattle.packet_store.specs.declared.results.PacketResult.{PacketResult}
 use Rattle.packet_store.specs.declared.results.PacketResult.TheVariants.{Short, Ran}
 use Rattle.pcc_lines.specs.Line.{hex_digits}
@@ -19,9 +19,8 @@ kind_text Store = codes " store "
 -- a kind no packet is run.
 abbrev pub returned_text : Option PolicyKind → ℕ → ℕ → List ℕ
 returned_text None word sum = decimal word
-returned_text (Some Filter) word sum = decimal word
-returned_text (Some Tag) word sum = decimal word ++ codes " " ++ decimal sum
-returned_text (Some Table) word sum = decimal word ++ codes " " ++ decimal sum
+returned_text (Some kind) word sum =
+    if kind_has_sum kind then decimal word ++ codes " " ++ decimal sum else decimal word
 
 -- the index, the kind and the address of a blocked access
 abbrev pub blocked_text : ℕ → Kind → ℕ → List ℕ

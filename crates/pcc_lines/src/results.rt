@@ -38,12 +38,12 @@ fn push_returned(line: &mut Line, kind: Option<PolicyKind>, word: u64, sum: u64)
     ensures len { array_vec_len line.new ≤ array_vec_len line.old + RESULT }
 {
     push_decimal(line, word);
-    match kind {
-        None | Some(PolicyKind::Filter) => {}
-        Some(PolicyKind::Tag) | Some(PolicyKind::Table) => {
-            push_text(line, " ");
-            push_decimal(line, sum);
-        }
+    let Some(kind) = kind else {
+        return;
+    };
+    if kind.has_sum() {
+        push_text(line, " ");
+        push_decimal(line, sum);
     }
 }
 

@@ -5,7 +5,7 @@ use Rattle.pcc_words.specs.declared.commands.AsmArgs.{AsmArgs}
 use Rattle.pcc_words.specs.declared.commands.Command.{Command}
 use Rattle.pcc_words.specs.declared.commands.PolicyWord.{PolicyWord as PolicyGiven}
 use Rattle.pcc_words.specs.declared.commands.PolicyWord.TheVariants as word
-use Rattle.pcc_words.specs.declared.limits.TheConstants.{MAX_BOUND, MAX_DEMO, MAX_STEPS}
+use Rattle.pcc_words.specs.declared.limits.TheConstants.{MAX_BOUND, MAX_DEMO, MAX_STEPS, PLAIN_VERSION, PROFILE_TWO_VERSION, BOUNDED_VERSION}
 use Rattle.pcc_words.specs.declared.commands.Command.TheVariants as command
 
 -- how the word tells the policy
@@ -29,10 +29,10 @@ invocation_of (command.Upgrade args) = upgrade args.input.now args.output.now
 invocation_of (command.Host script) = host script.now
 invocation_of (command.Bpf args) = bpf args.input.now args.output.now
 
--- The container has version 3 and this bound, which is in its range, or version 1 or 2 and none.
+-- The container has the version for a bound and this one, which is in its range, or one without.
 abbrev pub IsVersionOf : Option ℕ → ℕ → Type 0
-IsVersionOf (Some bound) version = (version ≡ 3) × (1 ≤ bound) × (bound ≤ MAX_BOUND)
-IsVersionOf None version = (1 ≤ version) × (version ≤ 2)
+IsVersionOf (Some bound) version = (version ≡ BOUNDED_VERSION) × (1 ≤ bound) × (bound ≤ MAX_BOUND)
+IsVersionOf None version = (PLAIN_VERSION ≤ version) × (version ≤ PROFILE_TWO_VERSION)
 
 -- The numbers of a command are in their ranges.
 abbrev pub IsInRange : Command → Type 0

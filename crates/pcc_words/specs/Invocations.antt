@@ -10,7 +10,7 @@ use Rattle.clap.specs.Lexer.{strip_byte}
 use Rattle.clap.specs.Simple.{on_top}
 use Rattle.clap.specs.declared.builder.action.ArgAction.TheVariants.{SetTrue}
 use Rattle.clap.specs.declared.builder.value_parser.ValueParser.TheVariants as parser
-use Rattle.pcc_words.specs.declared.limits.TheConstants.{MAX_BOUND, MAX_DEMO, MAX_STEPS}
+use Rattle.pcc_words.specs.declared.limits.TheConstants.{MAX_BOUND, MAX_DEMO, MAX_STEPS, PLAIN_VERSION, PROFILE_TWO_VERSION, BOUNDED_VERSION}
 
 -- ---- the command line
 
@@ -190,11 +190,11 @@ abbrev pub is_bound : Option ℕ → Bool
 is_bound None = true
 is_bound (Some n) = nat_le 1 n && nat_le n MAX_BOUND
 
--- The version of the container that `asm` makes: 3 where it is given a bound, else 2 where that is
--- asked for, else 1.
+-- The version of the container that `asm` makes: the one for a bound where it is given one, else the
+-- second profile's where that is asked for, else the first.
 abbrev pub version_at : Option ℕ → List Row → ℕ
-version_at (Some bound) rows = 3
-version_at None rows = if is_given (codes "v2") rows then 2 else 1
+version_at (Some bound) rows = BOUNDED_VERSION
+version_at None rows = if is_given (codes "v2") rows then PROFILE_TWO_VERSION else PLAIN_VERSION
 
 -- from 1 to 1,000,000,000
 abbrev pub is_step_count : ℕ → Bool

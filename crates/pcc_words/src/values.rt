@@ -10,7 +10,9 @@ ghost use Rattle.pcc_words.specs.Commands.{word_view, asm_of, invocation_of};
 ghost use Rattle.pcc_words.specs.Commands.{IsVersionOf, IsInRange};
 
 use crate::commands::{AsmArgs, CheckArgs, Command, CopyArgs, PathArgs, PolicyWord, RunArgs};
-use crate::limits::{MAX_BOUND, MAX_DEMO, MAX_STEPS};
+use crate::limits::{
+    BOUNDED_VERSION, MAX_BOUND, MAX_DEMO, MAX_STEPS, PLAIN_VERSION, PROFILE_TWO_VERSION,
+};
 use clap::ArgMatches;
 
 /// Returns the number of an optional argument, or None if it isn't given.
@@ -73,8 +75,14 @@ pub fn version_given(matches: &ArgMatches<'_>, bound: Option<u32>) -> u32
     ensures { result ≡ version_at bound (rows_of (found_of matches.now)) }
 {
     match bound {
-        Some(_) => 3,
-        None => { if is_given(matches, "v2") { 2 } else { 1 } }
+        Some(_) => BOUNDED_VERSION,
+        None => {
+            if is_given(matches, "v2") {
+                PROFILE_TWO_VERSION
+            } else {
+                PLAIN_VERSION
+            }
+        }
     }
 }
 

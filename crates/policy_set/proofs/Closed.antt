@@ -1,6 +1,6 @@
--- What the built-in policies keep: their formulas are closed but for registers and m, and aren't
--- high.
-use Rattle.std.proofs.Common.{◌≡◌, ◌≤◌, ℕ, true, List, [], Option, Some, None, IfSome, option_map, refl, sym, subst, arith}
+-- What policies keep, built in or spelled: their formulas are closed but for registers and m, and
+-- aren't high. Their operators are those of the second profile, of what is built in the first's.
+use Rattle.std.proofs.Common.{◌≡◌, ◌≤◌, ℕ, true, false, List, [], length, Option, Some, None, IfSome, option_map, refl, sym, subst, arith}
 use Rattle.std.specs.Prelude.{nat_le}
 use Rattle.std.specs.Global.{Box}
 use Rattle.std.proofs.lemmas.Bool.{leb-true}
@@ -10,13 +10,20 @@ use Rattle.formula_tree.specs.Views.{form_view}
 use Rattle.formula_tree.specs.Scope.{IsOver}
 use Rattle.policy_set.specs.declared.kind.PolicyKind.{PolicyKind}
 use Rattle.policy_set.specs.declared.kind.PolicyKind.TheVariants.{Filter, Tag, Table}
-use Rattle.policy_set.specs.declared.limits.TheConstants.{MAX_FORM_HEIGHT}
+use Rattle.policy_set.specs.declared.limits.TheConstants.{MAX_FORM_HEIGHT, MAX_FORM_LINE}
 use Rattle.policy_set.specs.Policies.{pre_of, post_of, long_packet, readable_packet, usable_scratch, separate_scratch}
 use Rattle.policy_set.specs.Names.{kind_of, policy_of}
-use Rattle.policy_set.specs.Views.{PolicyView, built_in, IsPolicy, PolicyUses}
+use Rattle.policy_set.specs.Views.{PolicyView, built_in, IsPolicyForm, IsPolicy, PolicyUses}
 use Rattle.policy_set.specs.Inside.Held.{policy_view}
-use Rattle.word_ops.specs.Operators.{IsFirstOp}
+use Rattle.word_ops.specs.declared.Profile.TheVariants.{Two}
+use Rattle.word_ops.specs.Operators.{IsFirstOp, has_op}
+use Rattle.word_ops.proofs.EachOp.{last_has}
+use Rattle.formula_tree.specs.Formulas.{Form}
 use Rattle.formula_tree.specs.Operators.{Uses}
+use Rattle.formula_text.specs.Grammar.{Spells}
+use Rattle.formula_text.proofs.Closed.{spelled_closed}
+use Rattle.policy_set.proofs.AllOperators.{uses-any}
+use Rattle.policy_set.proofs.Heights.{spelled-low}
 
 module _ (r : ℕ) (h : 31 ≤ r) where
   long_packet-over : IsOver r long_packet []
@@ -98,6 +105,10 @@ post-first Filter = (tt, tt)
 post-first Tag = tt
 post-first Table = tt
 
+-- those of any policy are the second profile's, which is the last
+pub policy-operators : (F : Form) → IsPolicyForm F → Uses (λ o. has_op Two o ≡ true) F
+policy-operators F f = uses-any (λ o. has_op Two o ≡ true) last_has F
+
 -- ---- heights
 
 pre-few : (kind : PolicyKind) → nat_le (form_height (pre_of kind)) MAX_FORM_HEIGHT ≡ true
@@ -109,6 +120,16 @@ post-few : (kind : PolicyKind) → nat_le (form_height (post_of kind)) MAX_FORM_
 post-few Filter = refl
 post-few Tag = refl
 post-few Table = refl
+
+-- ---- a policy's formulas
+
+-- what a line spells
+pub spelled-form : (line : List ℕ) (F : Form) → Spells Two false line F
+    → length line ≤ MAX_FORM_LINE → IsPolicyForm F
+spelled-form line F h short = record {
+  over = spelled_closed Two false line F h;
+  low = spelled-low Two line F h short;
+}
 
 -- ---- the policy of a kind
 

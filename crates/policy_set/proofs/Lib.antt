@@ -1,3 +1,5 @@
+pub mod EachKind
+pub mod AllOperators
 pub mod Closed
 pub mod Numbers
 pub mod Heights

@@ -9,7 +9,6 @@ use Rattle.text_tokens.proofs.Endings.{lines_are, are_lines}
 use Rattle.formula_tree.specs.Formulas.{Form}
 use Rattle.formula_text.specs.Parsing.{FaultAt, parsed_form}
 use Rattle.formula_text.proofs.Joined.{spelled_parsed, parsed_spelled}
-use Rattle.formula_text.proofs.Closed.{spelled_closed}
 use Rattle.policy_set.specs.declared.fault.PolicyFault.{PolicyFault}
 use Rattle.policy_set.specs.declared.fault.PolicyFault.TheVariants as fault
 use Rattle.policy_set.specs.declared.fault.PolicyFlaw.{PolicyFlaw}
@@ -18,7 +17,7 @@ use Rattle.policy_set.specs.declared.limits.TheConstants.{MAX_FORM_LINE}
 use Rattle.policy_set.specs.Policies.{pre_of, post_of}
 use Rattle.policy_set.specs.Views.{PolicyView, IsPolicy}
 use Rattle.policy_set.specs.PolicyText.{SpellsPolicy, from_file, form_lines, in_line, line_form, policy_read, IsPolicyAnswer, SpellsNoPolicy}
-use Rattle.policy_set.proofs.Heights.{spelled-low}
+use Rattle.policy_set.proofs.Closed.{spelled-form}
 
 -- ---- what is spelled is read
 
@@ -138,14 +137,8 @@ none-if bytes (Err fault.Memory) h = tt
 pub spelled-is : (bytes : List ℕ) (policy : PolicyView) → SpellsPolicy bytes policy
     → IsPolicy policy
 spelled-is bytes policy h = record {
-  asked = record {
-    over = spelled_closed Two false h.first policy.pre h.asked;
-    low = spelled-low Two h.first policy.pre h.asked h.first_short;
-  };
-  promised = record {
-    over = spelled_closed Two false h.second policy.post h.promised;
-    low = spelled-low Two h.second policy.post h.promised h.second_short;
-  };
+  asked = spelled-form h.first policy.pre h.asked h.first_short;
+  promised = spelled-form h.second policy.post h.promised h.second_short;
   of_kind =
       subst
       (λ o. IfSome o (λ kind. (policy.pre ≡ pre_of kind) × (policy.post ≡ post_of kind)))

@@ -8,13 +8,12 @@ use Rattle.std.proofs.lemmas.Str.Parse.{digit_from_value}
 use Rattle.std.proofs.lemmas.Fmt.{decimal_is_IsNumeral}
 use Rattle.word_ops.specs.declared.Profile.TheVariants.{Two}
 use Rattle.word_ops.specs.declared.Rel.TheVariants as R
-use Rattle.word_ops.specs.Operators.{op_keyword, has_op}
+use Rattle.word_ops.specs.Operators.{op_keyword}
 use Rattle.word_ops.proofs.EachOp.{each_op}
 use Rattle.text_tokens.specs.Lines.{IsLine, ends_in_cr, AreLines, none, by_lf}
 use Rattle.formula_tree.specs.Formulas.{Exp, EReg, ELeft, EVar, ELit, EOp, ESel, MemExp, MMem, MVar, MUpd, Form, FTrue, FFalse, FRel, FRd, FWr, FAnd, FOr, FImp, FAll, FAllm}
 use Rattle.formula_tree.specs.Scope.{VarSort, OfWord, OfMem, IsOverExp, IsOverMem, IsOver}
 use Rattle.formula_tree.specs.Sizes.{form_height, binders}
-use Rattle.formula_tree.specs.Operators.{UsesExp, UsesMem, Uses}
 use Rattle.formula_text.specs.declared.keywords.Keyword.{Keyword}
 use Rattle.formula_text.specs.declared.keywords.Keyword.TheVariants as K
 use Rattle.formula_text.specs.Keywords.{keyword_text}
@@ -27,6 +26,7 @@ use Rattle.policy_set.specs.declared.limits.TheConstants.{MAX_FORM_LINE}
 use Rattle.policy_set.specs.Views.{PolicyView, IsPolicyForm, IsPolicy}
 use Rattle.policy_set.specs.PolicyText.{SpellsPolicy, from_file}
 use Rattle.policy_set.specs.Digest.{policy_text}
+use Rattle.policy_set.proofs.Closed.{policy-operators}
 
 -- ---- bytes behind the control codes that end lines
 
@@ -146,33 +146,6 @@ form-bare (FAllm A) d G l h =
 
 -- ---- a formula of a policy is read from its text
 
--- the second profile has each operator
-mutual
-  exp-uses : (e : Exp) → UsesExp (λ o. has_op Two o ≡ true) e
-  exp-uses (EReg r) = tt
-  exp-uses ELeft = tt
-  exp-uses (EVar n) = tt
-  exp-uses (ELit w) = tt
-  exp-uses (EOp o a b) = (refl, exp-uses a, exp-uses b)
-  exp-uses (ESel m a) = (mem-uses m, exp-uses a)
-
-  mem-uses : (m : MemExp) → UsesMem (λ o. has_op Two o ≡ true) m
-  mem-uses MMem = tt
-  mem-uses (MVar n) = tt
-  mem-uses (MUpd m a v) = (mem-uses m, exp-uses a, exp-uses v)
-
-form-uses : (A : Form) → Uses (λ o. has_op Two o ≡ true) A
-form-uses FTrue = tt
-form-uses FFalse = tt
-form-uses (FRel p a b) = (exp-uses a, exp-uses b)
-form-uses (FRd a) = exp-uses a
-form-uses (FWr a) = exp-uses a
-form-uses (FAnd A B) = (form-uses A, form-uses B)
-form-uses (FOr A B) = (form-uses A, form-uses B)
-form-uses (FImp A B) = (form-uses A, form-uses B)
-form-uses (FAll A) = form-uses A
-form-uses (FAllm A) = form-uses A
-
 binders-low : (A : Form) → binders A ≤ form_height A
 binders-low FTrue = omega arith
 binders-low FFalse = omega arith
@@ -190,7 +163,7 @@ binders-few F f = omega (arith, binders-low F, f.low)
 
 spells-again : (F : Form) → IsPolicyForm F → Spells Two false (form_text 0 F) F
 spells-again F f =
-    print_spells Two false F f.over (form-uses F) (omega (arith, binders-few F f))
+    print_spells Two false F f.over (policy-operators F f) (omega (arith, binders-few F f))
 
 text-bare : (F : Form) → IsPolicyForm F → IsBare (form_text 0 F)
 text-bare F f = form-bare F 0 [] (binders-few F f) f.over

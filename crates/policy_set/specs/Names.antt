@@ -1,25 +1,27 @@
 -- The policies' names and numbers.
-use Rattle.std.specs.Prelude.{◌≡◌, ℕ, Bool, false, ◌==◌, List, Option, Some, None, option_map, unwrap_or, codes, if◌then◌else◌}
+use Rattle.std.specs.Prelude.{◌≡◌, ℕ, Bool, false, ◌==◌, List, Option, Some, None, find, option_map, unwrap_or}
 use Rattle.std.specs.Str.{bytes_eq}
 use Rattle.policy_set.specs.declared.kind.PolicyKind.{PolicyKind}
-use Rattle.policy_set.specs.declared.kind.PolicyKind.TheVariants.{Filter, Tag, Table}
+use Rattle.policy_set.specs.Policies.{policy_row, policy_kinds}
 use Rattle.policy_set.specs.Views.{PolicyView, built_in}
 
 -- ---- kinds
 
 -- the number that containers carry
 abbrev pub kind_number : PolicyKind → ℕ
-kind_number Filter = 1
-kind_number Tag = 2
-kind_number Table = 3
+kind_number kind = (policy_row kind).number
+
+-- the name
+abbrev pub kind_name : PolicyKind → List ℕ
+kind_name kind = (policy_row kind).name
 
 -- the kind of a name
 abbrev pub kind_of : List ℕ → Option PolicyKind
-kind_of name =
-    if bytes_eq name (codes "filter") then Some Filter else
-    if bytes_eq name (codes "tag") then Some Tag else
-    if bytes_eq name (codes "table") then Some Table else
-    None
+kind_of name = find (λ kind. bytes_eq name (kind_name kind)) policy_kinds
+
+-- the kind of a number
+abbrev pub kind_numbered : ℕ → Option PolicyKind
+kind_numbered n = find (λ kind. kind_number kind == n) policy_kinds
 
 -- whether the number is that of the kind; without a kind none is
 abbrev pub is_kind_number : Option PolicyKind → ℕ → Bool

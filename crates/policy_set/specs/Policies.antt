@@ -1,5 +1,5 @@
 -- What each policy asks at the start and promises of the end, in the notation of formula text beside each.
-use Rattle.std.specs.Prelude.{ℕ}
+use Rattle.std.specs.Prelude.{ℕ, Bool, true, false, List, [], ◌∷◌, codes}
 use Rattle.word_ops.specs.declared.Op.TheVariants.{Add, Band, Sll}
 use Rattle.word_ops.specs.declared.Rel.TheVariants.{Eq, Ult, Ule}
 use Rattle.formula_tree.specs.Formulas.{Exp, EReg, EVar, ELit, EOp, ESel, MMem, Form, FTrue, FFalse, FRel, FRd, FWr, FAnd, FImp, FAll}
@@ -76,16 +76,39 @@ usable_table = FAll (FImp (FRel Ult (EVar 0) (EReg 17)) (FAnd (FRd entry_address
 abbrev pub table_pre : Form
 table_pre = FAnd short_table usable_table
 
--- ---- all three
+-- ---- the kinds, a row each
+
+-- the number that containers carry, the name, what holds before code starts and after it returned, and whether result lines
+-- show the sum of the start's region
+pub record PolicyRow : Type 0 where
+  pub number : ℕ
+  pub name : List ℕ
+  pub pre : Form
+  pub post : Form
+  pub has_sum : Bool
+
+-- a row, its fields in their order
+abbrev row : ℕ → List ℕ → Form → Form → Bool → PolicyRow
+row n w p q s = record { number = n; name = w; pre = p; post = q; has_sum = s }
+
+-- the table
+abbrev pub policy_row : PolicyKind → PolicyRow
+policy_row Filter = row 1 (codes "filter") filter_pre filter_post false
+policy_row Tag = row 2 (codes "tag") tag_pre FTrue true
+policy_row Table = row 3 (codes "table") table_pre FTrue true
+
+-- all kinds, by their numbers
+abbrev pub policy_kinds : List PolicyKind
+policy_kinds = Filter ∷ Tag ∷ Table ∷ []
 
 -- what holds before code starts
 abbrev pub pre_of : PolicyKind → Form
-pre_of Filter = filter_pre
-pre_of Tag = tag_pre
-pre_of Table = table_pre
+pre_of kind = (policy_row kind).pre
 
 -- what holds after it returned
 abbrev pub post_of : PolicyKind → Form
-post_of Filter = filter_post
-post_of Tag = FTrue
-post_of Table = FTrue
+post_of kind = (policy_row kind).post
+
+-- whether result lines show the sum of the start's region
+abbrev pub kind_has_sum : PolicyKind → Bool
+kind_has_sum kind = (policy_row kind).has_sum

@@ -157,15 +157,7 @@ impl Policy {
 fn kind_named(name: &str) -> Option<PolicyKind>
     ensures { result ≡ kind_of name.now }
 {
-    if name == "filter" {
-        Some(PolicyKind::Filter)
-    } else if name == "tag" {
-        Some(PolicyKind::Tag)
-    } else if name == "table" {
-        Some(PolicyKind::Table)
-    } else {
-        None
-    }
+    PolicyKind::named(name.as_bytes())
 }
 
 /// Returns the built-in policy with this name, or None exactly if the name is none of `filter`,

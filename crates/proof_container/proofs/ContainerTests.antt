@@ -18,8 +18,9 @@ use Rattle.term_table.proofs.Equality.{tree_eq-true, tree_eq_refl}
 use Rattle.proof_container.specs.declared.container.Head.{Head}
 use Rattle.proof_container.specs.declared.container.Head.TheVariants.{Number, Digest}
 use Rattle.proof_container.specs.declared.fault.Flaw.TheVariants.{Magic, Version, Count, ForwardRef, Order, InvOrder, Trailing}
-use Rattle.proof_container.specs.declared.limits.TheConstants.{MAX_VERSION, MAX_BOUND, MAX_WORDS, MAX_ENTRIES, MAX_INVS, MAX_LEMMAS}
-use Rattle.proof_container.specs.Versions.{IsVersion, policy_size, bound_size, code_field}
+use Rattle.lf_signature.specs.declared.editions.TheConstants.{MAX_VERSION}
+use Rattle.proof_container.specs.declared.limits.TheConstants.{MAX_BOUND, MAX_WORDS, MAX_ENTRIES, MAX_INVS, MAX_LEMMAS}
+use Rattle.proof_container.specs.Versions.{IsVersion, is_numbered, is_bounded, has_lemmas, policy_size, bound_size, code_field}
 use Rattle.proof_container.specs.Contents.{Contents, lemma_roots, one_or_none, roots}
 use Rattle.proof_container.specs.Postorder.{entries}
 use Rattle.proof_container.specs.Encoding.{magic}
@@ -251,7 +252,7 @@ module _ (bytes : List ℕ) where
     unfolding decoded_lemmas
     lemmas-speaks es j i invs at =
         subst (λ k. Speaks (lemmas_part bytes f.version (f.next + 1) k es (map (λ p. p.1) invs)) (lemmas_read es j invs)) (sym at)
-        (go (eqb f.version 4))
+        (go (has_lemmas f.version))
       where
         go : (b : Bool) → Speaks (tests_if b
             (is_lawful bytes (j + 1 + 2 * length invs) (λ n. n ≤ MAX_LEMMAS) Count
@@ -317,7 +318,7 @@ module _ (bytes : List ℕ) where
   policy-then : (v : ℕ) (rest : FaultTests) (g : Head → Result Contents Fault) → 4 * 2 ≤ length bytes → ((head : Head) → Speaks rest (g head))
       → Speaks (are_whole bytes 2 (policy_size v) ++ rest) (policy_at bytes v >>= g)
   unfolding policy_at
-  policy-then v rest g before h = go (eqb v 1)
+  policy-then v rest g before h = go (is_numbered v)
     where
       go : (b : Bool) → Speaks (are_whole bytes 2 (cond b 1 8) ++ rest)
           (cond b (field_at bytes 2 >>= λ n. Ok (Number n)) (raw_at bytes 2 (cond b 1 8) >>= λ d. Ok (Digest d)) >>= g)
@@ -327,9 +328,9 @@ module _ (bytes : List ℕ) where
           (raw-then bytes 2 8 rest (λ d. Ok (Digest d) >>= g) before (λ w. h (Digest (slice_range bytes (4 * 2) (4 * (2 + 8))))))
 
   bound-then : (v : ℕ) (rest : FaultTests) (g : Option ℕ → Result Contents Fault) → ((bound : Option ℕ) → Speaks rest (g bound))
-      → Speaks ((tests_if (eqb v 3) (is_lawful bytes (2 + policy_size v) (λ n. (1 ≤ n) × (n ≤ MAX_BOUND)) Count) []) ++ rest) (step_bound_at bytes v >>= g)
+      → Speaks ((tests_if (is_bounded v) (is_lawful bytes (2 + policy_size v) (λ n. (1 ≤ n) × (n ≤ MAX_BOUND)) Count) []) ++ rest) (step_bound_at bytes v >>= g)
   unfolding step_bound_at
-  bound-then v rest g h = go (eqb v 3)
+  bound-then v rest g h = go (is_bounded v)
     where
       go : (b : Bool) → Speaks ((tests_if b (is_lawful bytes (2 + policy_size v) (λ n. (1 ≤ n) × (n ≤ MAX_BOUND)) Count) []) ++ rest)
           (cond b (between_at bytes (2 + policy_size v) 1 MAX_BOUND Count >>= λ n. Ok (Some n)) (Ok None) >>= g)
@@ -385,7 +386,7 @@ module _ (bytes : List ℕ) where
       let k = 2 + policy_size v + bound_size v in
       let n = number_at bytes k in
       let counted = is_lawful bytes k (λ n. (1 ≤ n) × (n ≤ MAX_WORDS)) Count ++ code_part bytes v n in
-      let bounded = (tests_if (eqb v 3) (is_lawful bytes (2 + policy_size v) (λ n. (1 ≤ n) × (n ≤ MAX_BOUND)) Count) []) ++ counted in
+      let bounded = (tests_if (is_bounded v) (is_lawful bytes (2 + policy_size v) (λ n. (1 ≤ n) × (n ≤ MAX_BOUND)) Count) []) ++ counted in
       push (policy_at bytes v) (bound_step v) front_read
       (policy-then v bounded (λ head. bound_step v head >>= front_read) before
       (λ head. push (step_bound_at bytes v) (words_step v head) front_read

@@ -1,14 +1,15 @@
 -- The start and the end of a container, and its entries, invariants and lemmas with their counts.
 use Rattle.term_table.specs.Steps.{◌>>=◌}
-use Rattle.std.proofs.Common.{◌≡◌, ◌≢◌, ℕ, suc, ◌+◌, ◌*◌, ◌/◌, ◌<◌, ◌≤◌, false, ltb, eqb, List, [], ◌∷◌, ◌++◌, length, drop, Option, Some, None, Result, Ok, refl, sym, ap, subst, ◌∙◌, append_assoc, length-append, inl, inr, arith}
+use Rattle.std.proofs.Common.{◌≡◌, ℕ, suc, ◌+◌, ◌*◌, ◌/◌, ◌<◌, ◌≤◌, true, false, cond, ltb, List, [], ◌∷◌, ◌++◌, length, drop, Option, Some, None, Result, Ok, refl, sym, ap, subst, ◌∙◌, append_assoc, length-append, inl, inr, arith}
 use Rattle.std.specs.List.{flat_map}
-use Rattle.std.proofs.lemmas.Bool.{ltb-false, le-ltb, ne_eqb, cases_eq}
+use Rattle.std.proofs.lemmas.Bool.{ltb-false, le-ltb, cases_Bool}
 use Rattle.term_table.specs.Tree.{Tree}
 use Rattle.term_table.specs.Table.{AreDifferent}
 use Rattle.proof_container.specs.declared.container.Head.{Head}
 use Rattle.proof_container.specs.declared.container.Head.TheVariants.{Number, Digest}
 use Rattle.proof_container.specs.declared.fault.Flaw.TheVariants.{Magic, Version, Count}
-use Rattle.proof_container.specs.Versions.{policy_size, bound_size, code_field, IsVersion, IsHead, IsBoundOf, AreLemmasOf}
+use Rattle.proof_container.specs.declared.limits.TheConstants.{MAX_BOUND, MAX_LEMMAS}
+use Rattle.proof_container.specs.Versions.{is_numbered, is_bounded, has_lemmas, policy_size, bound_size, code_field, IsVersion, IsHead, IsBoundOf, AreLemmasOf}
 use Rattle.proof_container.specs.Contents.{Contents, lemma_roots, roots}
 use Rattle.proof_container.specs.Postorder.{entries, ArePostorder, AreEmitted}
 use Rattle.term_table.specs.Bytes.{IsBytes}
@@ -17,7 +18,7 @@ use Rattle.proof_container.specs.Decoding.{Fault, field_at, exact_at, between_at
 use Rattle.proof_container.proofs.Walks.{ArePostorder-different, misplaced_none}
 use Rattle.proof_container.proofs.FieldLaws.{bind_ok, guard_ok, done, ok_is, field_takes, exact_takes, exact_again, between_takes, between_again, field_there, Stands, Stands-there, Stands-again, Stands-append, Stands-split, AreFields, AreFields-append, length-field_bytes, IsPiece, piece_then, fields_piece, behind_piece, IsRaw, raw_takes, raw_again}
 use Rattle.proof_container.proofs.Sections.{entries_take, entries_again, AreInvs, invs_take, invs_again, lemmas_take, lemmas_again}
-use Rattle.proof_container.proofs.LemmaIds.{few_lemmas, lemmas_of_four, no_lemmas}
+use Rattle.proof_container.proofs.LemmaIds.{few_lemmas, so_many_lemmas, no_lemmas}
 
 -- ---- what names the policy, and the bound
 
@@ -26,63 +27,70 @@ pub record IsNamed (bytes : List ℕ) (version : ℕ) (h : Head) : Type 0 where
   pub named : IsHead version h
   pub stands : IsPiece bytes 2 (policy_bytes h) (2 + policy_size version)
 
--- in version 1 it is a number
-number_takes : (bytes : List ℕ) (h : Head) → IsBytes bytes → policy_at bytes 1 ≡ Ok h
-    → IsNamed bytes 1 h
+-- how it is read: a number is the next field, and a digest is raw
+numbered_read : (bytes : List ℕ) (version : ℕ) → is_numbered version ≡ true
+    → policy_at bytes version ≡ (field_at bytes 2 >>= (λ n. Ok (Number n)))
 unfolding policy_at
-number_takes bytes h fits e =
-    let n = bind_ok (field_at bytes 2) _ h e in
-    let made : IsNamed bytes 1 (Number n.0) = record {
-      named = (refl, (field_takes bytes 2 n.0 fits n.1).small);
-      stands = fields_piece bytes 2 (n.0 ∷ []) fits (n.1, tt);
-    } in
-    subst (λ (x : Head). IsNamed bytes 1 x) (ok_is (Number n.0) h n.2) made
+numbered_read bytes version first =
+    ap (λ b. cond b (field_at bytes 2 >>= (λ n. Ok (Number n)))
+    (raw_at bytes 2 (policy_size version) >>= (λ d. Ok (Digest d)))) first
 
--- in each other it is a digest
-digest_takes : (bytes : List ℕ) (version : ℕ) (h : Head) → IsBytes bytes → version ≢ 1
-    → policy_at bytes version ≡ Ok h → IsNamed bytes version h
+digest_size : (version : ℕ) → is_numbered version ≡ false → policy_size version ≡ 8
+digest_size version later = ap (λ b. cond b 1 8) later
+
+digest_read : (bytes : List ℕ) (version : ℕ) → is_numbered version ≡ false
+    → policy_at bytes version ≡ (raw_at bytes 2 8 >>= (λ d. Ok (Digest d)))
 unfolding policy_at
+digest_read bytes version later =
+    ap (λ b. cond b (field_at bytes 2 >>= (λ n. Ok (Number n)))
+    (raw_at bytes 2 (policy_size version) >>= (λ d. Ok (Digest d)))) later
+    ∙ ap (λ n. raw_at bytes 2 n >>= (λ d. Ok (Digest d))) (digest_size version later)
+
+number_takes : (bytes : List ℕ) (version : ℕ) (h : Head) → IsBytes bytes
+    → is_numbered version ≡ true → policy_at bytes version ≡ Ok h → IsNamed bytes version h
+number_takes bytes version h fits first e =
+    let n = bind_ok (field_at bytes 2) _ h (sym (numbered_read bytes version first) ∙ e) in
+    let size : policy_size version ≡ 1 = ap (λ b. cond b 1 8) first in
+    let made : IsNamed bytes version (Number n.0) = record {
+      named = (first, (field_takes bytes 2 n.0 fits n.1).small);
+      stands = subst (λ (k : ℕ). IsPiece bytes 2 (policy_bytes (Number n.0)) (2 + k)) (sym size)
+          (fields_piece bytes 2 (n.0 ∷ []) fits (n.1, tt));
+    } in
+    subst (λ (x : Head). IsNamed bytes version x) (ok_is (Number n.0) h n.2) made
+
+digest_takes : (bytes : List ℕ) (version : ℕ) (h : Head) → IsBytes bytes
+    → is_numbered version ≡ false → policy_at bytes version ≡ Ok h → IsNamed bytes version h
 digest_takes bytes version h fits later e =
-    let not_first : eqb version 1 ≡ false = ne_eqb version 1 later in
-    let read : policy_at bytes version ≡ raw_at bytes 2 8 >>= (λ d. Ok (Digest d)) =
-    rw not_first refl in
-    let d = bind_ok (raw_at bytes 2 8) _ h (sym read ∙ e) in
+    let d = bind_ok (raw_at bytes 2 8) _ h (sym (digest_read bytes version later) ∙ e) in
     let raw : IsRaw bytes 2 8 d.0 = raw_takes bytes 2 8 d.0 fits d.1 in
-    let size : policy_size version ≡ 8 = rw not_first refl in
     let made : IsNamed bytes version (Digest d.0) = record {
       named = (later, raw.long, raw.fits);
-      stands = subst (λ (n : ℕ). IsPiece bytes 2 d.0 (2 + n)) (sym size) raw.stands;
+      stands = subst (λ (n : ℕ). IsPiece bytes 2 d.0 (2 + n)) (sym (digest_size version later))
+          raw.stands;
     } in
     subst (λ (x : Head). IsNamed bytes version x) (ok_is (Digest d.0) h d.2) made
 
 pub policy_takes : (bytes : List ℕ) (version : ℕ) (h : Head) → IsBytes bytes
     → policy_at bytes version ≡ Ok h → IsNamed bytes version h
 policy_takes bytes version h fits e =
-    elim (cases_eq version 1) [
-      | inl first ↦
-          let there = subst (λ (v : ℕ). policy_at bytes v ≡ Ok h) first e in
-          subst (λ (v : ℕ). IsNamed bytes v h) (sym first) (number_takes bytes h fits there)
+    elim (cases_Bool (is_numbered version)) [
+      | inl first ↦ number_takes bytes version h fits first e
       | inr later ↦ digest_takes bytes version h fits later e
     ]
 
 pub policy_again : (bytes : List ℕ) (version : ℕ) (h : Head) (rest : List ℕ) → IsHead version h
     → drop (4 * 2) bytes ≡ policy_bytes h ++ rest → policy_at bytes version ≡ Ok h
-unfolding policy_at
 policy_again bytes version (Number n) rest named e =
     let there : Stands bytes 2 (n ∷ []) = Stands-again bytes 2 (n ∷ []) rest e (named.1, tt) in
-    let here : policy_at bytes 1 ≡ Ok (Number n) = rw there.0 refl in
-    subst (λ (v : ℕ). policy_at bytes v ≡ Ok (Number n)) (sym named.0) here
+    numbered_read bytes version named.0 ∙ ap (λ r. r >>= (λ k. Ok (Number k))) there.0
 policy_again bytes version (Digest d) rest named e =
-    let later : eqb version 1 ≡ false = ne_eqb version 1 named.0 in
-    rw (later, raw_again bytes 2 8 d rest e named.1 (omega arith)) refl
+    digest_read bytes version named.0
+    ∙ ap (λ r. r >>= (λ x. Ok (Digest x))) (raw_again bytes 2 8 d rest e named.1 (omega arith))
 
 pub length-policy : (version : ℕ) (h : Head) → IsHead version h
     → length (policy_bytes h) ≡ 4 * policy_size version
-length-policy version (Number n) named =
-    ap (λ (v : ℕ). 4 * policy_size v) (sym named.0)
-length-policy version (Digest d) named =
-    let later : eqb version 1 ≡ false = ne_eqb version 1 named.0 in
-    rw later named.1
+length-policy version (Number n) named = ap (λ b. 4 * cond b 1 8) (sym named.0)
+length-policy version (Digest d) named = named.1 ∙ ap (λ b. 4 * cond b 1 8) (sym named.0)
 
 -- the bound was read in this version
 pub record IsBounded (bytes : List ℕ) (version : ℕ) (b : Option ℕ) : Type 0 where
@@ -95,54 +103,62 @@ pub record IsBounded (bytes : List ℕ) (version : ℕ) (b : Option ℕ) : Type 
 abbrev no_steps : Option ℕ
 no_steps = None
 
-no_bound : (bytes : List ℕ) (version : ℕ) (b : Option ℕ) → version ≢ 3
-    → step_bound_at bytes version ≡ Ok b → IsBounded bytes version b
+-- how it is read, if the version has one, and if it hasn't
+bounded_read : (bytes : List ℕ) (version : ℕ) → is_bounded version ≡ true
+    → step_bound_at bytes version
+    ≡ (between_at bytes (2 + policy_size version) 1 MAX_BOUND Count >>= (λ n. Ok (Some n)))
 unfolding step_bound_at
+bounded_read bytes version bounded =
+    ap (λ b. cond b (between_at bytes (2 + policy_size version) 1 MAX_BOUND Count >>= (λ n. Ok (Some n))) (Ok None))
+    bounded
+
+unbounded_read : (bytes : List ℕ) (version : ℕ) → is_bounded version ≡ false
+    → step_bound_at bytes version ≡ done no_steps
+unfolding step_bound_at
+unbounded_read bytes version other =
+    ap (λ b. cond b (between_at bytes (2 + policy_size version) 1 MAX_BOUND Count >>= (λ n. Ok (Some n))) (Ok None))
+    other
+
+no_bound : (bytes : List ℕ) (version : ℕ) (b : Option ℕ) → is_bounded version ≡ false
+    → step_bound_at bytes version ≡ Ok b → IsBounded bytes version b
 no_bound bytes version b other e =
-    let not_third : eqb version 3 ≡ false = ne_eqb version 3 other in
-    let read : step_bound_at bytes version ≡ done no_steps = rw not_third refl in
-    let size : bound_size version ≡ 0 = rw not_third refl in
+    let size : bound_size version ≡ 0 = ap (λ x. cond x 1 0) other in
     let made : IsBounded bytes version None =
     record { bounded = other; small = tt; stands = tt; long = sym size } in
-    subst (λ (x : Option ℕ). IsBounded bytes version x) (ok_is None b (sym read ∙ e)) made
+    subst (λ (x : Option ℕ). IsBounded bytes version x)
+    (ok_is None b (sym (unbounded_read bytes version other) ∙ e)) made
 
--- in version 3 it is one of its numbers
-third_bound : (bytes : List ℕ) (b : Option ℕ) → step_bound_at bytes 3 ≡ Ok b → IsBounded bytes 3 b
-unfolding step_bound_at
-third_bound bytes b e =
-    let a = bind_ok (between_at bytes 10 1 1000000000 Count) _ b e in
-    let n = between_takes bytes 10 1 1000000000 a.0 Count a.1 in
-    let made : IsBounded bytes 3 (Some a.0) = record {
-      bounded = (refl, n.1, n.2);
+-- it is one of the numbers that it may be
+some_bound : (bytes : List ℕ) (version : ℕ) (b : Option ℕ) → is_bounded version ≡ true
+    → step_bound_at bytes version ≡ Ok b → IsBounded bytes version b
+some_bound bytes version b bounded e =
+    let i : ℕ = 2 + policy_size version in
+    let a = bind_ok (between_at bytes i 1 MAX_BOUND Count) _ b (sym (bounded_read bytes version bounded) ∙ e) in
+    let n = between_takes bytes i 1 MAX_BOUND a.0 Count a.1 in
+    let size : bound_size version ≡ 1 = ap (λ x. cond x 1 0) bounded in
+    let made : IsBounded bytes version (Some a.0) = record {
+      bounded = (bounded, n.1, n.2);
       small = (omega (arith, n.2), tt);
       stands = (n.0, tt);
-      long = refl;
+      long = sym size;
     } in
-    subst (λ (x : Option ℕ). IsBounded bytes 3 x) (ok_is (Some a.0) b a.2) made
+    subst (λ (x : Option ℕ). IsBounded bytes version x) (ok_is (Some a.0) b a.2) made
 
 pub bound_takes : (bytes : List ℕ) (version : ℕ) (b : Option ℕ)
     → step_bound_at bytes version ≡ Ok b → IsBounded bytes version b
 bound_takes bytes version b e =
-    elim (cases_eq version 3) [
-      | inl third ↦
-          let there = subst (λ (v : ℕ). step_bound_at bytes v ≡ Ok b) third e in
-          subst (λ (v : ℕ). IsBounded bytes v b) (sym third) (third_bound bytes b there)
+    elim (cases_Bool (is_bounded version)) [
+      | inl bounded ↦ some_bound bytes version b bounded e
       | inr other ↦ no_bound bytes version b other e
     ]
 
 pub bound_again : (bytes : List ℕ) (version : ℕ) (b : Option ℕ) → IsBoundOf version b
     → Stands bytes (2 + policy_size version) (bound_fields b) → step_bound_at bytes version ≡ Ok b
-unfolding step_bound_at
-bound_again bytes version None bounded stands =
-    let other : eqb version 3 ≡ false = ne_eqb version 3 bounded in
-    rw other refl
+bound_again bytes version None bounded stands = unbounded_read bytes version bounded
 bound_again bytes version (Some n) bounded stands =
-    let there : Stands bytes 10 (n ∷ []) =
-    subst (λ (v : ℕ). Stands bytes (2 + policy_size v) (n ∷ [])) bounded.0 stands in
-    let read : between_at bytes 10 1 1000000000 Count ≡ Ok n =
-    between_again bytes 10 1 1000000000 n Count there.0 bounded.1 bounded.2 in
-    let here : step_bound_at bytes 3 ≡ Ok (Some n) = rw read refl in
-    subst (λ (v : ℕ). step_bound_at bytes v ≡ Ok (Some n)) (sym bounded.0) here
+    bounded_read bytes version bounded.0
+    ∙ ap (λ r. r >>= (λ m. Ok (Some m)))
+    (between_again bytes (2 + policy_size version) 1 MAX_BOUND n Count stands.0 bounded.1 bounded.2)
 
 bound_small : (version : ℕ) (b : Option ℕ) → IsBoundOf version b → AreFields (bound_fields b)
 bound_small version None bounded = tt
@@ -150,10 +166,8 @@ bound_small version (Some n) bounded = (omega (arith, bounded.2), tt)
 
 pub length-bound : (version : ℕ) (b : Option ℕ) → IsBoundOf version b
     → length (bound_fields b) ≡ bound_size version
-length-bound version None bounded =
-    let other : eqb version 3 ≡ false = ne_eqb version 3 bounded in
-    rw other refl
-length-bound version (Some n) bounded = ap bound_size (sym bounded.0)
+length-bound version None bounded = ap (λ x. cond x 1 0) (sym bounded)
+length-bound version (Some n) bounded = ap (λ x. cond x 1 0) (sym bounded.0)
 
 -- ---- what stands before the entries
 
@@ -427,82 +441,100 @@ pub record LemmasRead (v : ℕ) (bytes : List ℕ) (i : ℕ) (es : List Tree) (l
   pub stands : Stands bytes i (lemmas_fields v es lemmas)
   pub listed : AreEmitted es (lemma_roots lemmas)
 
-four_lemmas : (bytes : List ℕ) (i : ℕ) (es : List Tree) (lemmas : List (Tree × Tree))
-    → AreDifferent es → decoded_lemmas 4 bytes i es ≡ Ok lemmas → LemmasRead 4 bytes i es lemmas
+-- how they are read, if the version has some, and if it hasn't
+some_read : (v : ℕ) (bytes : List ℕ) (i : ℕ) (es : List Tree) → has_lemmas v ≡ true
+    → decoded_lemmas v bytes i es
+    ≡ (between_at bytes i 0 MAX_LEMMAS Count >>= (λ count. lemmas_at count bytes (i + 1) es []))
 unfolding decoded_lemmas
-four_lemmas bytes i es lemmas different e =
-    let a = bind_ok (between_at bytes i 0 256 Count) _ lemmas e in
-    let n = between_takes bytes i 0 256 a.0 Count a.1 in
+some_read v bytes i es has =
+    ap (λ b. cond b (between_at bytes i 0 MAX_LEMMAS Count >>= (λ count. lemmas_at count bytes (i + 1) es [])) (Ok []))
+    has
+
+-- no lemmas
+abbrev none_at_all : List (Tree × Tree)
+none_at_all = []
+
+none_decoded : (v : ℕ) (bytes : List ℕ) (i : ℕ) (es : List Tree) → has_lemmas v ≡ false
+    → decoded_lemmas v bytes i es ≡ done none_at_all
+unfolding decoded_lemmas
+none_decoded v bytes i es other =
+    ap (λ b. cond b (between_at bytes i 0 MAX_LEMMAS Count >>= (λ count. lemmas_at count bytes (i + 1) es [])) (Ok []))
+    other
+
+some_fields : (v : ℕ) (es : List Tree) (lemmas : List (Tree × Tree)) → has_lemmas v ≡ true
+    → lemmas_fields v es lemmas ≡ length lemmas ∷ flat_map (lemma_fields es) lemmas
+some_fields v es lemmas has = ap (λ b. cond b (length lemmas ∷ flat_map (lemma_fields es) lemmas) []) has
+
+lemmas_some : (v : ℕ) (bytes : List ℕ) (i : ℕ) (es : List Tree) (lemmas : List (Tree × Tree))
+    → has_lemmas v ≡ true → AreDifferent es → decoded_lemmas v bytes i es ≡ Ok lemmas
+    → LemmasRead v bytes i es lemmas
+lemmas_some v bytes i es lemmas has different e =
+    let a = bind_ok (between_at bytes i 0 MAX_LEMMAS Count) _ lemmas (sym (some_read v bytes i es has) ∙ e) in
+    let n = between_takes bytes i 0 MAX_LEMMAS a.0 Count a.1 in
     let b = lemmas_take a.0 bytes (i + 1) es [] lemmas different a.2 in
     let there : Stands bytes (suc i) (flat_map (lemma_fields es) b.0) =
     Stands-there bytes (i + 1) (suc i) (flat_map (lemma_fields es) b.0) (omega arith) b.3.stands in
-    let made : LemmasRead 4 bytes i es b.0 = record {
-      of_version = lemmas_of_four b.0 (omega (arith, n.2, b.2));
-      stands = (n.0 ∙ ap Ok (sym b.2), there);
+    let made : LemmasRead v bytes i es b.0 = record {
+      of_version = so_many_lemmas v b.0 has (omega (arith, n.2, b.2));
+      stands = subst (λ (fs : List ℕ). Stands bytes i fs) (sym (some_fields v es b.0 has))
+          (n.0 ∙ ap Ok (sym b.2), there);
       listed = b.3.listed;
     } in
-    subst (λ (x : List (Tree × Tree)). LemmasRead 4 bytes i es x) (sym b.1) made
+    subst (λ (x : List (Tree × Tree)). LemmasRead v bytes i es x) (sym b.1) made
 
-none_read : (v : ℕ) (bytes : List ℕ) (i : ℕ) (es : List Tree) (lemmas : List (Tree × Tree))
-    → v ≢ 4 → decoded_lemmas v bytes i es ≡ Ok lemmas → LemmasRead v bytes i es lemmas
-unfolding decoded_lemmas
-none_read v bytes i es lemmas other e =
-    let not_fourth : eqb v 4 ≡ false = ne_eqb v 4 other in
+lemmas_none : (v : ℕ) (bytes : List ℕ) (i : ℕ) (es : List Tree) (lemmas : List (Tree × Tree))
+    → has_lemmas v ≡ false → decoded_lemmas v bytes i es ≡ Ok lemmas
+    → LemmasRead v bytes i es lemmas
+lemmas_none v bytes i es lemmas other e =
     let none : List (Tree × Tree) = [] in
-    let read : decoded_lemmas v bytes i es ≡ done none = rw not_fourth refl in
-    let empty : lemmas_fields v es none ≡ [] = rw not_fourth refl in
+    let empty : lemmas_fields v es none ≡ [] =
+    ap (λ b. cond b (length none ∷ flat_map (lemma_fields es) none) []) other in
     let made : LemmasRead v bytes i es none = record {
       of_version = tt;
       stands = subst (λ (fs : List ℕ). Stands bytes i fs) (sym empty) tt;
       listed = tt;
     } in
-    subst (λ (x : List (Tree × Tree)). LemmasRead v bytes i es x) (ok_is none lemmas (sym read ∙ e))
-    made
+    subst (λ (x : List (Tree × Tree)). LemmasRead v bytes i es x)
+    (ok_is none lemmas (sym (none_decoded v bytes i es other) ∙ e)) made
 
 pub lemmas_read_takes : (v : ℕ) (bytes : List ℕ) (i : ℕ) (es : List Tree)
     (lemmas : List (Tree × Tree)) → AreDifferent es → decoded_lemmas v bytes i es ≡ Ok lemmas
     → LemmasRead v bytes i es lemmas
 lemmas_read_takes v bytes i es lemmas different e =
-    elim (cases_eq v 4) [
-      | inl fourth ↦
-          let there = subst (λ (u : ℕ). decoded_lemmas u bytes i es ≡ Ok lemmas) fourth e in
-          subst (λ (u : ℕ). LemmasRead u bytes i es lemmas) (sym fourth)
-          (four_lemmas bytes i es lemmas different there)
-      | inr other ↦ none_read v bytes i es lemmas other e
+    elim (cases_Bool (has_lemmas v)) [
+      | inl has ↦ lemmas_some v bytes i es lemmas has different e
+      | inr other ↦ lemmas_none v bytes i es lemmas other e
     ]
 
-four_again : (bytes : List ℕ) (i : ℕ) (es : List Tree) (lemmas : List (Tree × Tree))
-    → LemmasRead 4 bytes i es lemmas → decoded_lemmas 4 bytes i es ≡ Ok lemmas
-unfolding decoded_lemmas
-four_again bytes i es lemmas p =
-    let count : between_at bytes i 0 256 Count ≡ Ok (length lemmas) =
-    between_again bytes i 0 256 (length lemmas) Count p.stands.0 (omega arith)
-    (few_lemmas 4 lemmas p.of_version) in
+some_again : (v : ℕ) (bytes : List ℕ) (i : ℕ) (es : List Tree) (lemmas : List (Tree × Tree))
+    → has_lemmas v ≡ true → LemmasRead v bytes i es lemmas
+    → decoded_lemmas v bytes i es ≡ Ok lemmas
+some_again v bytes i es lemmas has p =
+    let stands : Stands bytes i (length lemmas ∷ flat_map (lemma_fields es) lemmas) =
+    subst (λ (fs : List ℕ). Stands bytes i fs) (some_fields v es lemmas has) p.stands in
+    let count : between_at bytes i 0 MAX_LEMMAS Count ≡ Ok (length lemmas) =
+    between_again bytes i 0 MAX_LEMMAS (length lemmas) Count stands.0 (omega arith)
+    (few_lemmas v lemmas p.of_version) in
     let there : Stands bytes (i + 1) (flat_map (lemma_fields es) lemmas) =
     Stands-there bytes (suc i) (i + 1) (flat_map (lemma_fields es) lemmas) (omega arith)
-    p.stands.1 in
+    stands.1 in
     let others : lemmas_at (length lemmas) bytes (i + 1) es [] ≡ Ok lemmas =
     lemmas_again lemmas bytes (i + 1) es [] (record { stands = there; listed = p.listed }) in
-    rw (count, others) refl
+    some_read v bytes i es has
+    ∙ ap (λ r. r >>= (λ n. lemmas_at n bytes (i + 1) es [])) count ∙ others
 
 none_again : (v : ℕ) (bytes : List ℕ) (i : ℕ) (es : List Tree) (lemmas : List (Tree × Tree))
-    → v ≢ 4 → LemmasRead v bytes i es lemmas → decoded_lemmas v bytes i es ≡ Ok lemmas
-unfolding decoded_lemmas
+    → has_lemmas v ≡ false → LemmasRead v bytes i es lemmas
+    → decoded_lemmas v bytes i es ≡ Ok lemmas
 none_again v bytes i es lemmas other p =
-    let not_fourth : eqb v 4 ≡ false = ne_eqb v 4 other in
-    let none : List (Tree × Tree) = [] in
-    let read : decoded_lemmas v bytes i es ≡ done none = rw not_fourth refl in
-    read ∙ ap done (sym (no_lemmas v lemmas other p.of_version))
+    none_decoded v bytes i es other ∙ ap done (sym (no_lemmas v lemmas other p.of_version))
 
 pub lemmas_read_again : (v : ℕ) (bytes : List ℕ) (i : ℕ) (es : List Tree)
     (lemmas : List (Tree × Tree)) → LemmasRead v bytes i es lemmas
     → decoded_lemmas v bytes i es ≡ Ok lemmas
 lemmas_read_again v bytes i es lemmas p =
-    elim (cases_eq v 4) [
-      | inl fourth ↦
-          let there = subst (λ (u : ℕ). LemmasRead u bytes i es lemmas) fourth p in
-          subst (λ (u : ℕ). decoded_lemmas u bytes i es ≡ Ok lemmas) (sym fourth)
-          (four_again bytes i es lemmas there)
+    elim (cases_Bool (has_lemmas v)) [
+      | inl has ↦ some_again v bytes i es lemmas has p
       | inr other ↦ none_again v bytes i es lemmas other p
     ]
 

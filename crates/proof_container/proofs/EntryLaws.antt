@@ -1,11 +1,12 @@
 -- An entry that is read stands there as its fields, and where its fields stand it is read.
-use Rattle.std.proofs.Common.{◌≡◌, ℕ, zero, suc, ◌+◌, ◌*◌, ◌^◌, ◌<◌, Bool, true, false, ◌&&◌, ltb, eqb, eq-eqb, List, [], ◌∷◌, ◌++◌, length, Ok, Err, refl, sym, ap, ap₂, subst, ◌∙◌, arith, inl, inr}
+use Rattle.std.proofs.Common.{◌≡◌, ℕ, zero, suc, ◌+◌, ◌*◌, ◌^◌, ◌<◌, Bool, true, false, ◌&&◌, ltb, eqb, List, [], ◌∷◌, ◌++◌, length, Ok, Err, refl, sym, ap, ap₂, subst, ◌∙◌, arith, inl, inr}
 use Rattle.std.proofs.lemmas.Bool.{ltb-true, lt-ltb, eqb-true}
 use Rattle.term_table.specs.Tree.{Tree, Var, Con, App, Lam, Fam, TApp, Pi, Num, Lit, Calc, Fact, Deny, Lemma, IsAtomic}
 use Rattle.term_table.specs.Table.{tree_in, IsSmall, AreDifferent}
 use Rattle.proof_container.specs.declared.fault.Flaw.TheVariants.{EntryKind}
 use Rattle.proof_container.specs.Postorder.{is_emitted, HasPartsFirst}
 use Rattle.term_table.specs.Bytes.{IsBytes}
+use Rattle.proof_container.specs.Versions.{has_lemmas}
 use Rattle.proof_container.specs.Encoding.{word_fields, entry_number, entry_fields, IsEntryTerm, AreTerms}
 use Rattle.term_table.specs.Steps.{◌>>=◌}
 use Rattle.proof_container.specs.Decoding.{field_at, word_at, triple_at, is_lam, part_at, head_at, application_at, kind_at, entry_at, entry_size}
@@ -176,15 +177,15 @@ module _ (v : ℕ) (bytes : List ℕ) (i : ℕ) (ts : List Tree) (fits : IsBytes
       let part = AreTerms-listed v ts a.0 terms b.1 in
       subst (λ (y : Tree). IsEntry v bytes i ts y) (ok_is (Lam a.0) t a.2) (record { stands = (kind, (first, tt)); parts = b.1; term = part.0; small = part.1 })
 
-  lemma_takes : (t : Tree) → field_at bytes i ≡ Ok 8 → v ≡ 4
+  lemma_takes : (t : Tree) → field_at bytes i ≡ Ok 8 → has_lemmas v ≡ true
       → (field_at bytes (i + 1) >>= λ n. Ok (Con (Lemma n))) ≡ Ok t → IsEntry v bytes i ts t
-  lemma_takes t kind fourth e =
+  lemma_takes t kind has e =
       let a = bind_ok (field_at bytes (i + 1)) _ t e in
       let n = field_there bytes (i + 1) (suc i) a.0 (omega arith) a.1 in
       let made : IsEntry v bytes i ts (Con (Lemma a.0)) = record {
         stands = (kind, (n, tt));
         parts = tt;
-        term = fourth;
+        term = has;
         small = (field_takes bytes (i + 1) a.0 fits a.1).small;
       } in
       subst (λ (x : Tree). IsEntry v bytes i ts x) (ok_is (Con (Lemma a.0)) t a.2) made
@@ -207,9 +208,9 @@ module _ (v : ℕ) (bytes : List ℕ) (i : ℕ) (ts : List Tree) (fits : IsBytes
                 | inl y ↦ app_takes t (kind_is bytes i kind 6 p y.0) y.1
                 | inr n6 ↦ elim (either_ok (eqb kind 7) _ _ t n6.1) [
                   | inl y ↦ lam_takes t (kind_is bytes i kind 7 p y.0) y.1
-                  | inr n7 ↦ elim (either_ok (eqb kind 8 && eqb v 4) _ _ t n7.1) [
+                  | inr n7 ↦ elim (either_ok (eqb kind 8 && has_lemmas v) _ _ t n7.1) [
                     | inl y ↦ lemma_takes t (kind_is bytes i kind 8 p (both_true _ _ y.0).0)
-                        (eqb-true v 4 (both_true _ _ y.0).1) y.1
+                        (both_true _ _ y.0).1 y.1
                     | inr n8 ↦ absurd (let e : Err (4 * i, EntryKind) ≡ Ok t = n8.1 in cc)
                   ]
                 ]
@@ -246,8 +247,7 @@ entry_again v bytes i ts (Con (Deny o a b)) term parts p =
     rw (p.0, triple) refl
 entry_again v bytes i ts (Con (Lemma n)) term parts p =
     let number : field_at bytes (i + 1) ≡ Ok n = field_there bytes (suc i) (i + 1) n (omega arith) p.1.0 in
-    let fourth : eqb v 4 ≡ true = eq-eqb v 4 term in
-    rw (p.0, fourth, number) refl
+    rw (p.0, term, number) refl
 entry_again v bytes i ts (App f a) term parts p =
     let head : head_at bytes (i + 1) ts ≡ Ok f = head_again bytes (i + 1) ts f parts.0 term.1 (field_there bytes (suc i) (i + 1) (entry_number ts f) (omega arith) p.1.0) in
     let part : part_at bytes (i + 1 + 1) ts ≡ Ok a = part_again bytes (i + 1 + 1) ts a parts.1 (field_there bytes (suc (suc i)) (i + 1 + 1) (entry_number ts a) (omega arith) p.1.1.0) in

@@ -14,6 +14,7 @@ use Rattle.proof_container.specs.declared.fault.Flaw.{Flaw}
 use Rattle.proof_container.specs.declared.fault.Flaw.TheVariants.{Cut, EntryKind, ForwardRef, DoubleEntry}
 use Rattle.proof_container.specs.declared.fault.Flaw.TheVariants.{LambdaHead}
 use Rattle.proof_container.specs.Decoding.{Fault, field_at, exact_at, between_at, raw_at, word_at, is_lam, part_at, head_at, application_at}
+use Rattle.proof_container.specs.Versions.{has_lemmas}
 use Rattle.proof_container.specs.Decoding.{triple_at, kind_at, entry_at, entry_size, entries_at}
 use Rattle.proof_container.specs.Postorder.{is_emitted}
 use Rattle.proof_container.specs.FieldTests.{FaultTests, IsKind, number_at, long_at, is_whole, are_whole, is_lawful, is_entry, tree_of_kind}
@@ -254,15 +255,15 @@ module _ (bytes : List ℕ) {B : Type 0} where
     speaks-8 : KindSpeaks 8
     unfolding kind_at
     speaks-8 h =
-        cond_both (eqb v 4) (field_at bytes (i + 1) >>= λ n. Ok (Con (Lemma n))) (Err (4 * i, EntryKind))
+        cond_both (has_lemmas v) (field_at bytes (i + 1) >>= λ n. Ok (Con (Lemma n))) (Err (4 * i, EntryKind))
         (λ r. Speaks (test (IsKind v 8) (4 * i, EntryKind) ∷ (is_whole bytes (i + 1) ∷ rest)) (r >>= g))
-        (λ e. passing (IsKind v 8) (4 * i, EntryKind) (inr (refl, eqb-true v 4 e))
+        (λ e. passing (IsKind v 8) (4 * i, EntryKind) (inr (refl, e))
         (push (field_at bytes (i + 1)) (λ n. Ok (Con (Lemma n))) g (field-then (i + 1) rest (λ n. Ok (Con (Lemma n)) >>= g) (λ w. h))))
         (λ e. failing (IsKind v 8) (4 * i, EntryKind) (no_kind e))
       where
-        no_kind : eqb v 4 ≡ false → IsKind v 8 → ⊥
+        no_kind : has_lemmas v ≡ false → IsKind v 8 → ⊥
         no_kind e (inl le) = omega (arith, le)
-        no_kind e (inr four) = eqb-false v 4 e four.1
+        no_kind e (inr eight) = true≢false (sym eight.1 ∙ e)
 
     -- another is none
     module _ (kind : ℕ) (n0 : kind ≢ 0) (n1 : kind ≢ 1) (n2 : kind ≢ 2) (n3 : kind ≢ 3) (n4 : kind ≢ 4) (n5 : kind ≢ 5) (n6 : kind ≢ 6)

@@ -1,9 +1,9 @@
 -- The lemmas of a container by their ids: how many there are, and that each is a tree of the table.
-use Rattle.std.proofs.Common.{◌≡◌, ◌≢◌, ℕ, zero, suc, ◌<◌, ◌≤◌, true, List, [], ◌∷◌, ◌++◌, length, get_or, refl, ap, subst, sym, arith}
+use Rattle.std.proofs.Common.{◌≡◌, ℕ, zero, suc, ◌<◌, ◌≤◌, true, false, List, [], ◌∷◌, ◌++◌, length, get_or, refl, ap, subst, sym, ◌∙◌, true≢false, arith}
 use Rattle.term_table.specs.Tree.{Tree}
 use Rattle.term_table.specs.Table.{TableView, tree_at}
 use Rattle.lf_lemmas.specs.Tables.{lemmas_in, LemmasBelow}
-use Rattle.proof_container.specs.Versions.{AreLemmasOf}
+use Rattle.proof_container.specs.Versions.{has_lemmas, AreLemmasOf}
 use Rattle.proof_container.specs.Contents.{lemma_roots}
 use Rattle.proof_container.specs.Postorder.{is_emitted, AreEmitted}
 
@@ -12,15 +12,17 @@ pub few_lemmas : {A : Type 0} (v : ℕ) (lemmas : List A) → AreLemmasOf v lemm
 few_lemmas v [] h = omega arith
 few_lemmas v (l ∷ lemmas) h = h.1
 
--- version 4 may have so many
-pub lemmas_of_four : {A : Type 0} (lemmas : List A) → length lemmas ≤ 256 → AreLemmasOf 4 lemmas
-lemmas_of_four [] h = tt
-lemmas_of_four (l ∷ lemmas) h = (refl, h)
+-- a version with lemmas may have so many
+pub so_many_lemmas : {A : Type 0} (v : ℕ) (lemmas : List A) → has_lemmas v ≡ true
+    → length lemmas ≤ 256 → AreLemmasOf v lemmas
+so_many_lemmas v [] has h = tt
+so_many_lemmas v (l ∷ lemmas) has h = (has, h)
 
 -- another version has none
-pub no_lemmas : {A : Type 0} (v : ℕ) (lemmas : List A) → v ≢ 4 → AreLemmasOf v lemmas → lemmas ≡ []
+pub no_lemmas : {A : Type 0} (v : ℕ) (lemmas : List A) → has_lemmas v ≡ false
+    → AreLemmasOf v lemmas → lemmas ≡ []
 no_lemmas v [] other h = refl
-no_lemmas v (l ∷ lemmas) other h = absurd (other h.0)
+no_lemmas v (l ∷ lemmas) other h = absurd (true≢false (sym h.0 ∙ other))
 
 pub length-lemmas_in : (t : TableView) (ids : List (ℕ × ℕ)) → length (lemmas_in t ids) ≡ length ids
 length-lemmas_in t [] = refl

@@ -19,5 +19,6 @@ pub mod Written
 pub mod Ready
 pub mod Same
 pub mod LemmaIds
+pub mod Bounded
 mod Rows
 pub mod Rewriting

@@ -10,7 +10,7 @@ use Rattle.proof_container.specs.Postorder.{is_emitted, HasPartsFirst, ArePostor
 use Rattle.term_table.specs.Bytes.{IsBytes}
 use Rattle.proof_container.specs.Encoding.{entry_number, entry_fields, inv_fields, lemma_fields, lemmas_fields, proof_field, AreTerms, AreRising}
 use Rattle.proof_container.specs.Decoding.{Fault, field_at, part_at, entry_at, entry_size, entries_at, inv_at, invs_at, lemmas_at, decoded_proof}
-use Rattle.proof_container.specs.Versions.{lemmas_size}
+use Rattle.proof_container.specs.Versions.{has_lemmas, lemmas_size}
 use Rattle.proof_container.proofs.Walks.{ArePostorder-append, ArePostorder-different, number_is, number-at, listed-at}
 use Rattle.proof_container.proofs.FieldLaws.{bind_ok, guard_ok, either_ok, neither, ok_is, Stands, Stands-append, Stands-split, field_there}
 use Rattle.proof_container.proofs.EntryLaws.{part_takes, part_again, IsEntry, entry_takes, entry_again, entry_fields-append, entry_size_is}
@@ -235,7 +235,7 @@ length-pairs es (l ∷ lemmas) = omega (arith, length-pairs es lemmas)
 -- with their count, where the version has some
 pub length-lemmas : (v : ℕ) (es : List Tree) (lemmas : List (Tree × Tree))
     → length (lemmas_fields v es lemmas) ≡ lemmas_size v (length lemmas)
-length-lemmas v es lemmas = go (eqb v 4)
+length-lemmas v es lemmas = go (has_lemmas v)
   where
     all : List ℕ
     all = length lemmas ∷ flat_map (lemma_fields es) lemmas

@@ -11,7 +11,7 @@ use Rattle.proof_container.specs.declared.fault.Flaw.{Flaw}
 use Rattle.proof_container.specs.declared.fault.Flaw.TheVariants.{Magic, Version, Count, EntryKind, ForwardRef}
 use Rattle.proof_container.specs.declared.fault.Flaw.TheVariants.{InvOrder}
 use Rattle.proof_container.specs.declared.limits.TheConstants.{MAX_BOUND, MAX_WORDS, MAX_ENTRIES, MAX_INVS, MAX_LEMMAS}
-use Rattle.proof_container.specs.Versions.{IsVersion, policy_size, bound_size, code_field}
+use Rattle.proof_container.specs.Versions.{IsVersion, is_bounded, has_lemmas, policy_size, bound_size, code_field}
 use Rattle.proof_container.specs.Contents.{Contents}
 use Rattle.proof_container.specs.Postorder.{entries}
 use Rattle.proof_container.specs.Encoding.{EncodesContents, magic}
@@ -97,7 +97,7 @@ module _ (bytes : List ℕ) where
 
   lemmas-part-sharp : (v first i : ℕ) (es rs : List Tree) → AllSharp (lemmas_part bytes v first i es rs)
   lemmas-part-sharp v first i es rs =
-      choice-sharp (eqb v 4) (lawful-sharp i (λ n. n ≤ MAX_LEMMAS) Count
+      choice-sharp (has_lemmas v) (lawful-sharp i (λ n. n ≤ MAX_LEMMAS) Count
       (lemmas-sharp (number_at bytes i) (i + 1) es rs (λ j all. proof_tests bytes first j es all) (λ j all. proof-sharp first j es all)))
       (proof-sharp first i es rs)
 
@@ -117,8 +117,8 @@ module _ (bytes : List ℕ) where
   policy-part-sharp v =
       let k = 2 + policy_size v + bound_size v in
       appended (are_whole bytes 2 (policy_size v)) (whole-sharp 2 (policy_size v))
-      (appended (tests_if (eqb v 3) (is_lawful bytes (2 + policy_size v) (λ n. (1 ≤ n) × (n ≤ MAX_BOUND)) Count) [])
-      (choice-sharp (eqb v 3) (one-more (one-more no-more)) no-more)
+      (appended (tests_if (is_bounded v) (is_lawful bytes (2 + policy_size v) (λ n. (1 ≤ n) × (n ≤ MAX_BOUND)) Count) [])
+      (choice-sharp (is_bounded v) (one-more (one-more no-more)) no-more)
       (lawful-sharp k (λ n. (1 ≤ n) × (n ≤ MAX_WORDS)) Count (code-part-sharp v (number_at bytes k))))
 
   container-sharp : AllSharp (container_tests bytes)

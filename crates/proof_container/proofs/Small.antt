@@ -1,9 +1,9 @@
 -- What stands in a container's fields is below 2 ^ 32.
-use Rattle.std.proofs.Common.{◌≡◌, ℕ, suc, ◌+◌, ◌/◌, ◌^◌, ◌<◌, ◌≤◌, Bool, true, false, cond, eqb, List, [], ◌∷◌, ◌++◌, length, Option, Some, None, sym, ap, subst, append_assoc, length-append, arith}
+use Rattle.std.proofs.Common.{◌≡◌, ℕ, suc, ◌+◌, ◌/◌, ◌^◌, ◌<◌, ◌≤◌, Bool, true, false, cond, List, [], ◌∷◌, ◌++◌, length, Option, Some, None, sym, ap, subst, append_assoc, length-append, arith}
 use Rattle.std.specs.List.{flat_map}
 use Rattle.term_table.specs.Tree.{Tree, Var, Con, App, Lam, Fam, TApp, Pi, Num, Lit, Calc, Fact, Deny, Lemma}
 use Rattle.term_table.specs.Table.{IsSmall}
-use Rattle.proof_container.specs.Versions.{AreLemmasOf}
+use Rattle.proof_container.specs.Versions.{has_lemmas, AreLemmasOf}
 use Rattle.proof_container.specs.Contents.{Contents, one_or_none, lemma_roots, roots}
 use Rattle.proof_container.specs.Postorder.{entries, HasPartsFirst, ArePostorder, AreEmitted}
 use Rattle.proof_container.specs.Encoding.{word_fields, entry_fields, inv_fields, lemma_fields, lemmas_fields, proof_field, tail_fields, AreTerms, AreRising, IsContents}
@@ -57,7 +57,7 @@ pairs_small es (l ∷ lemmas) few listed =
 lemmas_small : (v : ℕ) (es : List Tree) (lemmas : List (Tree × Tree)) → length es ≤ 262144
     → AreLemmasOf v lemmas → AreEmitted es (lemma_roots lemmas)
     → AreFields (lemmas_fields v es lemmas)
-lemmas_small v es lemmas few of_version listed = go (eqb v 4)
+lemmas_small v es lemmas few of_version listed = go (has_lemmas v)
   where
     go : (b : Bool) → AreFields (cond b (length lemmas ∷ flat_map (lemma_fields es) lemmas) [])
     go true = (omega (arith, few_lemmas v lemmas of_version), pairs_small es lemmas few listed)

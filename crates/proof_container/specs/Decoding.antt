@@ -10,10 +10,11 @@ use Rattle.proof_container.specs.declared.container.Head.{Head}
 use Rattle.proof_container.specs.declared.container.Head.TheVariants.{Number, Digest}
 use Rattle.proof_container.specs.declared.fault.Flaw.{Flaw}
 use Rattle.proof_container.specs.declared.fault.Flaw.TheVariants.{Cut, Magic, Version, Count, EntryKind, ForwardRef, DoubleEntry, Order, LambdaHead, InvOrder, Trailing}
-use Rattle.proof_container.specs.Versions.{policy_size, bound_size, code_field, lemmas_size}
+use Rattle.lf_signature.specs.declared.editions.TheConstants.{MAX_VERSION}
+use Rattle.proof_container.specs.Versions.{is_numbered, is_bounded, has_lemmas, policy_size, bound_size, code_field, lemmas_size}
 use Rattle.proof_container.specs.Contents.{Contents, roots}
 use Rattle.proof_container.specs.Postorder.{is_emitted, entries}
-use Rattle.proof_container.specs.declared.limits.TheConstants.{MAX_BYTES, MAX_VERSION, MAX_BOUND, MAX_WORDS, MAX_ENTRIES, MAX_INVS, MAX_LEMMAS}
+use Rattle.proof_container.specs.declared.limits.TheConstants.{MAX_BYTES, MAX_BOUND, MAX_WORDS, MAX_ENTRIES, MAX_INVS, MAX_LEMMAS}
 use Rattle.proof_container.specs.Encoding.{magic}
 
 -- an offset, and what is wrong there
@@ -54,14 +55,14 @@ word_at bytes i = do
 -- what names the policy, from field 2 on
 unfoldable pub policy_at : List ℕ → ℕ → Result Head Fault
 policy_at bytes version =
-    if version == 1
+    if is_numbered version
     then field_at bytes 2 >>= (λ n. Ok (Number n))
     else raw_at bytes 2 (policy_size version) >>= (λ d. Ok (Digest d))
 
 -- how many steps the code makes at most, where the version bounds them
 unfoldable pub step_bound_at : List ℕ → ℕ → Result (Option ℕ) Fault
 step_bound_at bytes version =
-    if version == 3
+    if is_bounded version
     then between_at bytes (2 + policy_size version) 1 MAX_BOUND Count >>= (λ n. Ok (Some n))
     else Ok None
 
@@ -131,7 +132,7 @@ kind_at v bytes i ts kind =
     if kind == 5 then triple_at bytes (i + 1) >>= (λ t. Ok (Con (Deny t.0 t.1 t.2))) else
     if kind == 6 then application_at bytes (i + 1) ts else
     if kind == 7 then part_at bytes (i + 1) ts >>= (λ b. Ok (Lam b)) else
-    if kind == 8 && v == 4 then field_at bytes (i + 1) >>= (λ n. Ok (Con (Lemma n))) else
+    if kind == 8 && has_lemmas v then field_at bytes (i + 1) >>= (λ n. Ok (Con (Lemma n))) else
     Err (4 * i, EntryKind)
 
 -- the entry whose kind is field i
@@ -199,7 +200,7 @@ lemmas_at (suc n) bytes i es lemmas = do
 -- the lemmas, where the version has some: field i is their count
 unfoldable pub decoded_lemmas : ℕ → List ℕ → ℕ → List Tree → Result (List (Tree × Tree)) Fault
 decoded_lemmas v bytes i es =
-    if v == 4
+    if has_lemmas v
     then between_at bytes i 0 MAX_LEMMAS Count >>= (λ count. lemmas_at count bytes (i + 1) es [])
     else Ok []
 

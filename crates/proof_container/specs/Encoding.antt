@@ -1,7 +1,7 @@
 -- The grammar of containers. All fields are little-endian numbers of four bytes, but for a digest,
 -- which is bytes as they stand. The format is this project's own.
 use Rattle.term_table.specs.Bytes.{IsBytes}
-use Rattle.std.specs.Prelude.{◌≡◌, ℕ, suc, ◌+◌, ◌*◌, ◌/◌, ◌%◌, ◌^◌, ◌<◌, ◌≤◌, ◌==◌, if◌then◌else◌, List, [], ◌∷◌, ◌++◌, length, Option, Some, None}
+use Rattle.std.specs.Prelude.{◌≡◌, ℕ, suc, ◌+◌, ◌*◌, ◌/◌, ◌%◌, ◌^◌, ◌<◌, ◌≤◌, true, if◌then◌else◌, List, [], ◌∷◌, ◌++◌, length, Option, Some, None}
 use Rattle.std.specs.List.{flat_map}
 use Rattle.std.specs.Int.{w32, to_le_bytes}
 use Rattle.term_table.specs.Tree.{Tree, Var, Con, App, Lam, Fam, TApp, Pi, Const, Num, Lit, Calc, Fact, Deny, Lemma, IsAtomic}
@@ -10,7 +10,7 @@ use Rattle.term_table.specs.Table.{IsSmall}
 use Rattle.proof_container.specs.declared.container.Head.{Head}
 use Rattle.proof_container.specs.declared.container.Head.TheVariants.{Number, Digest}
 use Rattle.proof_container.specs.declared.limits.TheConstants.{MAX_WORDS, MAX_ENTRIES, MAX_INVS}
-use Rattle.proof_container.specs.Versions.{IsVersion, IsHead, IsBoundOf, AreLemmasOf}
+use Rattle.proof_container.specs.Versions.{has_lemmas, IsVersion, IsHead, IsBoundOf, AreLemmasOf}
 use Rattle.proof_container.specs.Contents.{Contents, roots}
 use Rattle.proof_container.specs.Postorder.{entries}
 
@@ -52,10 +52,10 @@ inv_fields es inv = inv.0 ∷ entry_number es inv.1 ∷ []
 abbrev pub lemma_fields : List Tree → Tree × Tree → List ℕ
 lemma_fields es l = entry_number es l.0 ∷ entry_number es l.1 ∷ []
 
--- the lemmas: in version 4 their count, and each
+-- the lemmas, if the version has some: their count, and each
 abbrev pub lemmas_fields : ℕ → List Tree → List (Tree × Tree) → List ℕ
 lemmas_fields v es lemmas =
-    if v == 4 then length lemmas ∷ flat_map (lemma_fields es) lemmas else []
+    if has_lemmas v then length lemmas ∷ flat_map (lemma_fields es) lemmas else []
 
 -- 0 for no proof, or 1 and the number of its entry
 abbrev pub proof_field : List Tree → Option Tree → ℕ
@@ -100,11 +100,11 @@ abbrev pub AreRising : ℕ → ℕ → List (ℕ × Tree) → Type 0
 AreRising low words [] = Unit {0}
 AreRising low words (inv ∷ invs) = (low ≤ inv.0) × (inv.0 < words) × AreRising (suc inv.0) words invs
 
--- a canonical term each part of which has a kind of entry in the version: in version 4 alone one
--- may be a lemma
+-- a canonical term each part of which has a kind of entry in the version: one may be a lemma if the
+-- version has some
 abbrev pub IsEntryTerm : ℕ → Tree → Type 0
 IsEntryTerm v (Var n) = Unit {0}
-IsEntryTerm v (Con (Lemma n)) = v ≡ 4
+IsEntryTerm v (Con (Lemma n)) = has_lemmas v ≡ true
 IsEntryTerm v (Con c) = Unit {0}
 IsEntryTerm v (App f a) = IsEntryTerm v f × IsAtomic f × IsEntryTerm v a
 IsEntryTerm v (Lam b) = IsEntryTerm v b

@@ -9,7 +9,7 @@ use Rattle.term_table.specs.Table.{tree_in}
 use Rattle.proof_container.specs.declared.fault.Flaw.{Flaw}
 use Rattle.proof_container.specs.declared.fault.Flaw.TheVariants.{Cut, Magic, Version, Count, EntryKind, ForwardRef, DoubleEntry, Order, LambdaHead, InvOrder, Trailing}
 use Rattle.proof_container.specs.declared.limits.TheConstants.{MAX_BOUND, MAX_WORDS, MAX_ENTRIES, MAX_INVS, MAX_LEMMAS}
-use Rattle.proof_container.specs.Versions.{IsVersion, policy_size, bound_size, code_field}
+use Rattle.proof_container.specs.Versions.{IsVersion, is_bounded, has_lemmas, policy_size, bound_size, code_field}
 use Rattle.proof_container.specs.Postorder.{is_emitted, entries}
 use Rattle.proof_container.specs.Encoding.{magic}
 use Rattle.proof_container.specs.Decoding.{entry_size}
@@ -23,9 +23,9 @@ abbrev pub tests_if : Bool → FaultTests → FaultTests → FaultTests
 tests_if true first second = first
 tests_if false first second = second
 
--- an entry's kind: a lemma is one in version 4 alone
+-- an entry's kind: a lemma is one if the version has some
 abbrev pub IsKind : ℕ → ℕ → Type 0
-IsKind v kind = (kind ≤ 7) ⊎ ((kind ≡ 8) × (v ≡ 4))
+IsKind v kind = (kind ≤ 7) ⊎ ((kind ≡ 8) × (has_lemmas v ≡ true))
 
 -- the entries, from field i on, stand in the order of the walk
 abbrev pub order_tests : ℕ → List Tree → List Tree → FaultTests
@@ -130,7 +130,7 @@ module _ (bytes : List ℕ) where
   -- the lemmas, where the version has some, from field i on, and the proof
   abbrev pub lemmas_part : ℕ → ℕ → ℕ → List Tree → List Tree → FaultTests
   lemmas_part v first i es rs =
-      tests_if (v == 4)
+      tests_if (has_lemmas v)
       (is_lawful i (λ n. n ≤ MAX_LEMMAS) Count ++ lemmas_tests (number_at i) (i + 1) es rs (λ j all. proof_tests first j es all))
       (proof_tests first i es rs)
 
@@ -148,11 +148,11 @@ module _ (bytes : List ℕ) where
       ++ (is_lawful i (λ n. n ≤ MAX_ENTRIES) Count
       ++ entries_tests v (number_at i) (i + 1) [] (λ j es. invs_part v words (i + 1) j es))
 
-  -- the policy, the bound in version 3, and what stands behind them
+  -- the policy, the bound, if the version has one, and what stands behind them
   abbrev pub policy_part : ℕ → FaultTests
   policy_part v =
       are_whole 2 (policy_size v)
-      ++ (tests_if (v == 3) (is_lawful (2 + policy_size v) (λ n. (1 ≤ n) × (n ≤ MAX_BOUND)) Count) []
+      ++ (tests_if (is_bounded v) (is_lawful (2 + policy_size v) (λ n. (1 ≤ n) × (n ≤ MAX_BOUND)) Count) []
       ++ (is_lawful (2 + policy_size v + bound_size v) (λ n. (1 ≤ n) × (n ≤ MAX_WORDS)) Count
       ++ code_part v (number_at (2 + policy_size v + bound_size v))))
 

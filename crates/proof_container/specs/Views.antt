@@ -86,8 +86,8 @@ AllTerms v [] = Unit {0}
 AllTerms v (t ∷ ts) = IsEntryTerm v t × AllTerms v ts
 
 -- a view that can be written: its version is one that is built, what names the policy, the bound
--- and the lemmas are that version's, its roots are terms of its table, which cite lemmas in version
--- 4 alone, its code is whole words, its counts are within the limits, and its indices rise below the
+-- and the lemmas are that version's, its roots are terms of its table, which cite lemmas if the
+-- version has some, its code is whole words, its counts are within the limits, and its indices rise below the
 -- count of words
 pub record IsWritable (v : View) : Type 0 where
   pub version : IsVersion v.version

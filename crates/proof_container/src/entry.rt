@@ -12,6 +12,7 @@ ghost use Rattle.proof_container.specs.Views.{Decodes};
 use crate::fault::{Flaw, Malformed};
 use crate::fields::Fields;
 use crate::limits::MAX_ENTRIES;
+use crate::versions::has_lemmas;
 use std::alloc::AllocError;
 use term_table::{Id, Node, Table};
 
@@ -60,7 +61,7 @@ fn application(fields: &mut Fields<'_>, table: &Table) -> Result<Node, Malformed
     Ok(Node::App(f, a))
 }
 
-/// The next entry. In version 4 alone it may be a lemma.
+/// The next entry. It may be a lemma if the version has some.
 #[tactic(auto, unfolding(crate::specs::Decoding::kind_at))]
 fn entry(fields: &mut Fields<'_>, table: &Table, version: u32) -> Result<Node, Malformed>
     ensures read { Decodes (node_tree table.now)
@@ -89,7 +90,7 @@ fn entry(fields: &mut Fields<'_>, table: &Table, version: u32) -> Result<Node, M
         }
         6 => application(fields, table),
         7 => Ok(Node::Lam(part(fields, table)?)),
-        8 if version == 4 => Ok(Node::Lemma(fields.field()?)),
+        8 if has_lemmas(version) => Ok(Node::Lemma(fields.field()?)),
         _ => Err(Malformed::At(offset, Flaw::EntryKind)),
     }
 }

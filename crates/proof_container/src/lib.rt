@@ -6,7 +6,8 @@
 //! long that encoding is; and which ids a walk emits, in order (`walk_from`). `specs/Contents`
 //! defines the contents, `specs/Postorder` the order of the entries, `specs/Encoding` the grammar
 //! (as a relation between bytes and contents), `specs/Decoding` the tests in their order, and
-//! `specs/Versions` the differences between the versions. The format is this project's own.
+//! `specs/Versions` the differences between the versions, by the table of editions. The format is
+//! this project's own.
 #![tactic(auto)]
 
 mod container;
@@ -22,9 +23,10 @@ mod writing;
 
 pub use container::{Container, Head, View};
 pub use fault::{Flaw, MAX_KIND, Malformed};
-pub use limits::{MAX_BOUND, MAX_BYTES, MAX_ENTRIES, MAX_INVS, MAX_LEMMAS, MAX_VERSION, MAX_WORDS};
+pub use lf_signature::MAX_VERSION;
+pub use limits::{MAX_BOUND, MAX_BYTES, MAX_ENTRIES, MAX_INVS, MAX_LEMMAS, MAX_WORDS};
 pub use reading::read;
 pub use theorems::laws;
-pub use versions::{profile_of, signature_of};
+pub use versions::{has_lemmas, is_bounded, is_numbered, profile_of, signature_of};
 pub use walk::{Walk, walk_from};
 pub use writing::{extent, write};

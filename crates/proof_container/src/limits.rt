@@ -1,8 +1,5 @@
 //! The limits of a container's fields and size.
 
-/// The greatest version.
-pub const MAX_VERSION: u32 = 4;
-
 /// The greatest step bound.
 pub const MAX_BOUND: u32 = 1_000_000_000;
 

@@ -26,9 +26,10 @@ use crate::container::{Container, Head};
 use crate::entry::{entries, part, size};
 use crate::fault::{Flaw, Malformed};
 use crate::fields::{Fields, MAGIC};
-use crate::limits::{MAX_BOUND, MAX_INVS, MAX_LEMMAS, MAX_VERSION, MAX_WORDS};
-use crate::versions::signature_of;
+use crate::limits::{MAX_BOUND, MAX_INVS, MAX_LEMMAS, MAX_WORDS};
+use crate::versions::{has_lemmas, is_bounded, is_numbered, signature_of};
 use crate::walk::walk_from;
+use lf_signature::MAX_VERSION;
 use std::alloc::Global;
 use term_table::{Id, Table};
 
@@ -48,7 +49,7 @@ fn policy(fields: &mut Fields<'_>, version: u32) -> Result<Head, Malformed>
     ensures read { Decodes (λ h. h) (policy_at fields.old.bytes.now version) result }
     ensures moves { OnOk result (IsPast fields.old fields.new (policy_size version)) }
 {
-    if version == 1 {
+    if is_numbered(version) {
         return Ok(Head::Number(fields.field()?));
     }
     let mut digest = [0; 32];
@@ -63,7 +64,7 @@ fn bound(fields: &mut Fields<'_>, version: u32) -> Result<Option<u32>, Malformed
     ensures read { Decodes (λ b. b) (step_bound_at fields.old.bytes.now version) result }
     ensures moves { OnOk result (IsPast fields.old fields.new (bound_size version)) }
 {
-    if version != 3 {
+    if !is_bounded(version) {
         return Ok(None);
     }
     let steps = fields.between(1, MAX_BOUND, Flaw::Count)?;
@@ -198,7 +199,7 @@ fn lemmas(
         (λ v. IsPast fields.old fields.new (lemmas_size version (length v.items))) }
     ensures known { IfOk result (λ v. LemmasKnown table.now v.items) }
 {
-    if version != 4 {
+    if !has_lemmas(version) {
         return Ok(Vec::new(alloc));
     }
     let count = fields.between(0, MAX_LEMMAS, Flaw::Count)?;

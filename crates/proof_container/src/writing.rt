@@ -24,6 +24,7 @@ ghost use Rattle.proof_container.specs.Views.{AreKnown, IsWritable, view_content
 use crate::container::{Head, View};
 use crate::entry::size;
 use crate::fields::MAGIC;
+use crate::versions::has_lemmas;
 use crate::walk::{Walk, walk_from};
 use byteorder::{ByteOrder, LittleEndian};
 use std::alloc::{AllocError, Global};
@@ -179,7 +180,7 @@ fn put_lemmas(
         OnOk result (out.new.items ≡ out.old.items ++
         field_bytes (lemmas_fields version es (lemmas_in table.now lemmas.now))) }
 {
-    if version != 4 {
+    if !has_lemmas(version) {
         return Ok(());
     }
     put(out, &[lemmas.len() as u32])?;
@@ -257,8 +258,8 @@ fn put_head(out: &mut Vec<u8>, view: &View<'_>, words: u32) -> Result<(), AllocE
 
 /// Encodes the contents of `view`. The entries are in the order of the walk from the invariants,
 /// then each lemma's formula and proof, and then the proof; other terms of the table aren't
-/// written. Except in version 4, `view` must have no lemmas and its roots must be terms that cite
-/// none, since there is no kind of entry for a citation.
+/// written. Except in a version with lemmas, `view` must have no lemmas and its roots must be terms
+/// that cite none, since there is no kind of entry for a citation.
 ///
 /// Errors: out of memory alone.
 pub fn write(alloc: Global, view: &View<'_>) -> Result<Vec<u8>, AllocError>
@@ -316,7 +317,7 @@ fn bound_len(bound: Option<u32>) -> u64
 fn lemmas_len(version: u32, lemmas: &[(Id, Id)]) -> u64
     ensures { result ≡ min (lemmas_size version (length lemmas.now)) (2 ^ 64 - 1) }
 {
-    if version != 4 {
+    if !has_lemmas(version) {
         return 0;
     }
     (lemmas.len() as u64).saturating_mul(2).saturating_add(1)

@@ -9,11 +9,10 @@ use Rattle.term_table.proofs.Options.{some_injective}
 use Rattle.word_ops.specs.declared.Op.{Op}
 use Rattle.word_ops.specs.declared.Rel.{Rel}
 use Rattle.word_ops.specs.Words.{test_of}
-use Rattle.lf_signature.specs.declared.WordSignature.TheVariants.{Sigma3}
 use Rattle.lf_signature.specs.Numbers.{rel_of}
 use Rattle.lf_signature.specs.Terms.{pf}
 use Rattle.lf_signature.specs.Known.{IsKnownType, listed, lemma}
-use Rattle.lf_signature.specs.Constants.{declared, op_in, is_word, calc_type, fact_type, deny_type}
+use Rattle.lf_signature.specs.Constants.{declared, op_in, is_word, calc_type, fact_type, deny_type, Longest}
 use Rattle.proof_kit.specs.Constants.{IsEvaluation}
 
 -- what may be a proof, or nothing, is the proof of a formula where it is something
@@ -21,8 +20,8 @@ guarded : (b : Bool) (g a : Tree) → cond b (Some (pf g)) None ≡ Some a → (
 guarded true g a e = (g, sym (some_injective e))
 guarded false g a e = cc
 
-evaluation_pf : (c : Const) (a : Tree) → IsEvaluation c → declared Sigma3 c ≡ Some a → (f : Tree) × (a ≡ pf f)
-evaluation_pf (Calc o x y) a h e = by_op (op_in Sigma3 o) e
+evaluation_pf : (c : Const) (a : Tree) → IsEvaluation c → declared Longest c ≡ Some a → (f : Tree) × (a ≡ pf f)
+evaluation_pf (Calc o x y) a h e = by_op (op_in Longest o) e
   where
     by_op : (p : Option Op) → bind p (λ p. cond (is_word x && is_word y) (Some (calc_type p x y)) None) ≡ Some a → (f : Tree) × (a ≡ pf f)
     by_op (Some p) e = guarded (is_word x && is_word y) _ a e

@@ -9,12 +9,12 @@ ghost use Rattle.term_table.specs.Table.{AllKnown, Extends};
 ghost use Rattle.lf_check.specs.Kept.{AreKept};
 ghost use Rattle.lf_sequents.specs.Sequents.{AreSequents};
 ghost use Rattle.lf_sequents.specs.Answers.{IsRuleAnswer};
-ghost use Rattle.lf_terms.specs.declared.numbers.TheConstants.{ADD_AL, ADD_ASSOC, ADD_COMM, ADD_ZERO, AND_ASSOC, AND_COMM, AND_LE, AND_ZERO, BIS_ZERO, BIS_ZERO_L, SLL_AL, SUB_ADD, SUB_NEG};
+ghost use Rattle.lf_signature.specs.declared.numbers.TheConstants.{ADD_AL, ADD_ASSOC, ADD_COMM, ADD_ZERO, AND_ASSOC, AND_COMM, AND_LE, AND_ZERO, BIS_ZERO, BIS_ZERO_L, SLL_AL, SUB_ADD, SUB_NEG};
 
 use lf_check::Kept;
 use lf_sequents::{Sequent, by_rule};
 use lf_signature::Known;
-use lf_terms::numbers::{
+use lf_signature::numbers::{
     ADD_AL, ADD_ASSOC, ADD_COMM, ADD_ZERO, AND_ASSOC, AND_COMM, AND_LE, AND_ZERO, BIS_ZERO,
     BIS_ZERO_L, SLL_AL, SUB_ADD, SUB_NEG,
 };

@@ -9,12 +9,12 @@ ghost use Rattle.term_table.specs.Table.{AllKnown, Extends};
 ghost use Rattle.lf_check.specs.Kept.{AreKept};
 ghost use Rattle.lf_sequents.specs.Sequents.{AreSequents};
 ghost use Rattle.proof_kit.specs.Pairs.{of_pair, IsPairAnswer};
-ghost use Rattle.lf_terms.specs.declared.numbers.TheConstants.{CMP_LE1, CMP_NO, CMP_YES};
+ghost use Rattle.lf_signature.specs.declared.numbers.TheConstants.{CMP_LE1, CMP_NO, CMP_YES};
 
 use lf_check::Kept;
 use lf_sequents::{Sequent, by_rule};
 use lf_signature::Known;
-use lf_terms::numbers::{CMP_LE1, CMP_NO, CMP_YES};
+use lf_signature::numbers::{CMP_LE1, CMP_NO, CMP_YES};
 use std::alloc::{AllocError, Global};
 use term_table::{Id, Table};
 

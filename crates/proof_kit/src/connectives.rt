@@ -9,12 +9,12 @@ ghost use Rattle.term_table.specs.Table.{AllKnown, Extends};
 ghost use Rattle.lf_check.specs.Kept.{AreKept};
 ghost use Rattle.lf_sequents.specs.Sequents.{AreSequents};
 ghost use Rattle.lf_sequents.specs.Answers.{IsRuleAnswer};
-ghost use Rattle.lf_terms.specs.declared.numbers.TheConstants.{AND_I, AND_L, AND_R, EM, FF_E, IMP_E, IMP_I, OR_E, OR_L, OR_R, TT_I};
+ghost use Rattle.lf_signature.specs.declared.numbers.TheConstants.{AND_I, AND_L, AND_R, EM, FF_E, IMP_E, IMP_I, OR_E, OR_L, OR_R, TT_I};
 
 use lf_check::Kept;
 use lf_sequents::{Sequent, by_rule};
 use lf_signature::Known;
-use lf_terms::numbers::{AND_I, AND_L, AND_R, EM, FF_E, IMP_E, IMP_I, OR_E, OR_L, OR_R, TT_I};
+use lf_signature::numbers::{AND_I, AND_L, AND_R, EM, FF_E, IMP_E, IMP_I, OR_E, OR_L, OR_R, TT_I};
 use std::alloc::{AllocError, Global};
 use term_table::{Id, Table};
 

@@ -9,12 +9,12 @@ ghost use Rattle.term_table.specs.Table.{AllKnown, Extends};
 ghost use Rattle.lf_check.specs.Kept.{AreKept};
 ghost use Rattle.lf_sequents.specs.Sequents.{AreSequents};
 ghost use Rattle.lf_sequents.specs.Answers.{IsRuleAnswer};
-ghost use Rattle.lf_terms.specs.declared.numbers.TheConstants.{BIC_DEF, BIC_LE, EXTB_LE, EXTL_LE, EXTW_LE, S4_DEF, S8_DEF, SUB_LO, XOR_SELF};
+ghost use Rattle.lf_signature.specs.declared.numbers.TheConstants.{BIC_DEF, BIC_LE, EXTB_LE, EXTL_LE, EXTW_LE, S4_DEF, S8_DEF, SUB_LO, XOR_SELF};
 
 use lf_check::Kept;
 use lf_sequents::{Sequent, by_rule};
 use lf_signature::Known;
-use lf_terms::numbers::{
+use lf_signature::numbers::{
     BIC_DEF, BIC_LE, EXTB_LE, EXTL_LE, EXTW_LE, S4_DEF, S8_DEF, SUB_LO, XOR_SELF,
 };
 use std::alloc::{AllocError, Global};

@@ -9,12 +9,12 @@ ghost use Rattle.term_table.specs.Table.{AllKnown, Extends};
 ghost use Rattle.lf_check.specs.Kept.{AreKept};
 ghost use Rattle.lf_sequents.specs.Sequents.{AreSequents};
 ghost use Rattle.lf_sequents.specs.Answers.{IsRuleAnswer};
-ghost use Rattle.lf_terms.specs.declared.numbers.TheConstants.{ADD_LE, LE_ANTI, LE_LT, LT_IRR, LT_LE, LT_PRED, MAX_LE, NOT_LT, SLL_MONO, SRL_MONO, ULE_REFL, ULE_TRANS, ULT_ULE, ZERO_LE};
+ghost use Rattle.lf_signature.specs.declared.numbers.TheConstants.{ADD_LE, LE_ANTI, LE_LT, LT_IRR, LT_LE, LT_PRED, MAX_LE, NOT_LT, SLL_MONO, SRL_MONO, ULE_REFL, ULE_TRANS, ULT_ULE, ZERO_LE};
 
 use lf_check::Kept;
 use lf_sequents::{Sequent, by_rule};
 use lf_signature::Known;
-use lf_terms::numbers::{
+use lf_signature::numbers::{
     ADD_LE, LE_ANTI, LE_LT, LT_IRR, LT_LE, LT_PRED, MAX_LE, NOT_LT, SLL_MONO, SRL_MONO, ULE_REFL,
     ULE_TRANS, ULT_ULE, ZERO_LE,
 };

@@ -7,7 +7,7 @@ use Rattle.word_ops.specs.declared.Rel.TheVariants.{Ule}
 use Rattle.word_ops.specs.Words.{word_of}
 use Rattle.formula_tree.specs.Formulas.{Exp, EVar, ELit, EOp, Form, FRel}
 use Rattle.lf_terms.specs.ProofTerms.{word_rule, move, up, calc, fact}
-use Rattle.lf_terms.specs.declared.numbers.TheConstants.{ADD_LE, AND_COMM, AND_LE, BIC_LE, CMP_LE1, EXTB_LE, EXTL_LE, EXTW_LE, LT_PRED, MAX_LE, SLL_MONO, SRL_MONO, SUB_LO, ULE_REFL, ULE_TRANS, ULT_ULE, ZERO_LE}
+use Rattle.lf_signature.specs.declared.numbers.TheConstants.{ADD_LE, AND_COMM, AND_LE, BIC_LE, CMP_LE1, EXTB_LE, EXTL_LE, EXTW_LE, LT_PRED, MAX_LE, SLL_MONO, SRL_MONO, SUB_LO, ULE_REFL, ULE_TRANS, ULT_ULE, ZERO_LE}
 use Rattle.prover_class.specs.Hypotheses.{Hyps}
 use Rattle.prover_class.specs.Bounds.{WordBound, word_bound, folded, fit_proof, max_word, upper_bound, lower_bound}
 use Rattle.prover_bounds.specs.declared.bounds.Side.{Side}

@@ -27,7 +27,7 @@ use crate::parts::{
 };
 use crate::relations::by_hypothesis;
 use hereditary_subst::{Exhausted, Memo};
-use lf_terms::numbers::{AND_LE, BIC_LE};
+use lf_signature::numbers::{AND_LE, BIC_LE};
 use prover_ids::Hypothesis;
 use term_table::{Id, Table};
 

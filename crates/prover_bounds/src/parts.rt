@@ -14,7 +14,7 @@ ghost use Rattle.prover_bounds.specs.Choices.{AreParts, IsDifference};
 
 use crate::bounds::{Bound, Side, fit_proof, folded, placed, word};
 use hereditary_subst::{Exhausted, Memo};
-use lf_terms::numbers::{
+use lf_signature::numbers::{
     ADD_LE, AND_COMM, AND_LE, CMP_LE1, EXTB_LE, EXTL_LE, EXTW_LE, MAX_LE, SLL_MONO, SRL_MONO,
     SUB_LO, ULE_REFL, ULE_TRANS, ZERO_LE,
 };

@@ -19,7 +19,7 @@ ghost use Rattle.prover_bounds.specs.Choices.{IsRelated, IsToWord, by_first};
 use crate::bounds::{Bound, Side, folded, placed, word};
 use crate::parts::limit;
 use hereditary_subst::{Exhausted, Memo};
-use lf_terms::numbers::{LT_PRED, ULE_REFL, ULT_ULE};
+use lf_signature::numbers::{LT_PRED, ULE_REFL, ULT_ULE};
 use lf_terms::rule_term;
 use prover_ids::{FormNode, Hypothesis, form_node, literal, moved};
 use term_table::{Id, Table};

@@ -6,7 +6,7 @@ use Rattle.term_table.proofs.Options.{bind_some, map_some, some_injective}
 use Rattle.term_table.proofs.Equality.{tree_eq-true}
 use Rattle.word_ops.specs.declared.Op.TheVariants.{Add, Sub, Sll, Srl}
 use Rattle.word_ops.specs.Words.{word_of}
-use Rattle.word_ops.proofs.Bounds.{word_of-below}
+use Rattle.word_ops.proofs.EachOp.{word_of-below}
 use Rattle.lf_signature.specs.Terms.{exp, pf, rd, wr}
 use Rattle.lf_signature.specs.Constants.{the_rules}
 use Rattle.formula_tree.specs.Formulas.{Exp, EVar, ELit, EOp, Form, FTrue, FFalse, FRel, FRd, FWr, FAnd, FOr, FImp, FAll, FAllm, shift_exp}
@@ -25,7 +25,8 @@ use Rattle.prover_class.proofs.Named.{all_e_proves, move_proves}
 use Rattle.prover_class.proofs.Shapes.{else_some, IsSound, goal_sound}
 use Rattle.prover_class.proofs.Goals.{if_some}
 use Rattle.prover_class.proofs.NormalForms.{normal_form_is, equal_says}
-use Rattle.lf_signature.specs.declared.WordSignature.{WordSignature}
+use Rattle.lf_signature.specs.declared.editions.WordSignature.{WordSignature}
+use Rattle.lf_signature.specs.declared.numbers.TheConstants.{AND_L, AND_R, IMP_E}
 
 nest-put : (A : Form) (x : ℕ) (o : Exp) → nesting (subst_var A x (PExp o)) ≡ nesting A
 nest-put FTrue x o = refl
@@ -109,11 +110,11 @@ module _ (sig : WordSignature) (e d : ℕ) (room : e + (d + d + d) + 16 ≤ 2 ^ 
 
   and_l_says : (A B : Form) (p : Tree) → Over sig (FAnd A B) ctx → nesting (FAnd A B) ≤ d → Says (FAnd A B) p → Says A (and_l A B p)
   unfolding the_rules
-  and_l_says A B p o n h = rule_proves sig e d room 30 _ refl ctx wide (AForm A ∷ AForm B ∷ []) (p ∷ []) ((o.0, omega (arith, n)), ((o.1, omega (arith, n)), tt)) (h, tt)
+  and_l_says A B p o n h = rule_proves sig e d room AND_L _ refl ctx wide (AForm A ∷ AForm B ∷ []) (p ∷ []) ((o.0, omega (arith, n)), ((o.1, omega (arith, n)), tt)) (h, tt)
 
   and_r_says : (A B : Form) (p : Tree) → Over sig (FAnd A B) ctx → nesting (FAnd A B) ≤ d → Says (FAnd A B) p → Says B (and_r A B p)
   unfolding the_rules
-  and_r_says A B p o n h = rule_proves sig e d room 31 _ refl ctx wide (AForm A ∷ AForm B ∷ []) (p ∷ []) ((o.0, omega (arith, n)), ((o.1, omega (arith, n)), tt)) (h, tt)
+  and_r_says A B p o n h = rule_proves sig e d room AND_R _ refl ctx wide (AForm A ∷ AForm B ∷ []) (p ∷ []) ((o.0, omega (arith, n)), ((o.1, omega (arith, n)), tt)) (h, tt)
 
   down_says : (m : Access) (A : Form) (l : List Side) (z : Exp) (p : Tree) → Over sig A ctx → nesting A ≤ d → LeadsTo m A l z → Says A p → Says (access_form m z) (down A l p)
   down_says m (FAnd A B) (Left ∷ l) z p o n h g = down_says m A l z (and_l A B p) o.0 (omega (arith, n)) h (and_l_says A B p o n g)
@@ -206,7 +207,7 @@ module _ (sig : WordSignature) (e d : ℕ) (room : e + (d + d + d) + 16 ≤ 2 ^ 
   module _ (without_access : Prover) (sl : IsSound sig e d room some 0 without_access) (big : d ≤ k) (out : ℕ) (Γ : Hyps) (are : AreHyps sig (e + d) d k ctx Γ) where
     imp_e_says : (P Q : Form) (h p : Tree) → Over sig (FImp P Q) ctx → nesting (FImp P Q) ≤ d → Says (FImp P Q) h → Says P p → Says Q (imp_e P Q h p)
     unfolding the_rules
-    imp_e_says P Q h p o n g f = rule_proves sig e d room 36 _ refl ctx wide (AForm P ∷ AForm Q ∷ []) (h ∷ p ∷ []) ((o.0, omega (arith, n)), ((o.1, omega (arith, n)), tt)) (g, (f, tt))
+    imp_e_says P Q h p o n g f = rule_proves sig e d room IMP_E _ refl ctx wide (AForm P ∷ AForm Q ∷ []) (h ∷ p ∷ []) ((o.0, omega (arith, n)), ((o.1, omega (arith, n)), tt)) (g, (f, tt))
 
     granted_says : (m : Access) (a : Exp) → OverExp sig a ctx → (P Q : Form) (h : Tree) (way : List Side) (z o : Exp) (p : Tree) → Over sig (FImp P Q) ctx →
         nesting (FImp P Q) ≤ d → Says (FImp P Q) h → LeadsTo m Q way z →

@@ -3,7 +3,7 @@ use Rattle.std.proofs.Common.{◌≡◌, ℕ, zero, suc, Option, Some, List, ◌
 use Rattle.term_table.specs.Tree.{Tree, Var, Con, App, Lam, Fam, TApp, Pi, shift, raise, at, Spot, Here, Other, spot, later}
 use Rattle.word_ops.specs.Operators.{op_constant}
 use Rattle.lf_signature.specs.Numbers.{rel_constant}
-use Rattle.lf_signature.specs.declared.WordSignature.{WordSignature}
+use Rattle.lf_signature.specs.declared.editions.WordSignature.{WordSignature}
 use Rattle.lf_signature.specs.Terms.{exp, mem, app1, app2, app3}
 use Rattle.lf_terms.specs.Plain.{plain_subst, plain_spot}
 use Rattle.lf_terms.proofs.Shifts.{spot-raise}

@@ -20,7 +20,8 @@ use Rattle.prover_class.proofs.Named.{move_proves, calc_proves, fact_proves, ref
 use Rattle.prover_class.proofs.Hypotheses.{find_proves}
 use Rattle.prover_class.proofs.Shapes.{else_some}
 use Rattle.prover_class.proofs.Bounds.{IsUpper, IsLower, upper_bound_is, lower_bound_is}
-use Rattle.lf_signature.specs.declared.WordSignature.{WordSignature}
+use Rattle.lf_signature.specs.declared.editions.WordSignature.{WordSignature}
+use Rattle.lf_signature.specs.declared.numbers.TheConstants.{ADD_AL, AND_ASSOC, AND_ZERO, LE_LT, LT_LE, SLL_AL, SUB_LO, ULE_TRANS, ULT_ULE}
 
 pub if_some : {A : Type 0} (t : Bool) (a p : A) → cond t (Some a) None ≡ Some p → (t ≡ true) × (a ≡ p)
 if_some true a p q = (refl, some_injective q)
@@ -55,16 +56,16 @@ module _ (sig : WordSignature) (e d : ℕ) (room : e + (d + d + d) + 16 ≤ 2 ^ 
       let seven : 7 < 2 ^ 64 = omega arith in
       let none : 0 < 2 ^ 64 = omega arith in
       let oall : OverExp sig all ctx = ((oa, ov, refl), seven, refl) in
-      let first = move (FRel Eq (up all) (EVar 0)) all (EOp Band a inner) (word_rule 52 (a ∷ ELit v ∷ ELit 7 ∷ []) []) (eq_refl all) in
+      let first = move (FRel Eq (up all) (EVar 0)) all (EOp Band a inner) (word_rule AND_ASSOC (a ∷ ELit v ∷ ELit 7 ∷ []) []) (eq_refl all) in
       let second = move (FRel Eq (up all) (EOp Band (up a) (EVar 0))) inner (ELit 0) (calc Band v 7) first in
       let p1 : Says (FRel Eq all (EOp Band a inner)) first =
-      move_eq all (EVar 0) all (EOp Band a inner) oall refl oall (oa, (ov, seven, refl), refl) (exp_encoding all) (exp_encoding (EOp Band a inner)) refl refl (word_rule 52 (a ∷ ELit v ∷ ELit 7 ∷ []) []) (eq_refl all)
-      (rule_proves sig e d room 52 _ refl ctx wide (AExp a ∷ AExp (ELit v) ∷ AExp (ELit 7) ∷ []) [] (oa, (ov, (seven, tt))) tt) (refl_proves sig e d room ctx wide all oall) in
+      move_eq all (EVar 0) all (EOp Band a inner) oall refl oall (oa, (ov, seven, refl), refl) (exp_encoding all) (exp_encoding (EOp Band a inner)) refl refl (word_rule AND_ASSOC (a ∷ ELit v ∷ ELit 7 ∷ []) []) (eq_refl all)
+      (rule_proves sig e d room AND_ASSOC _ refl ctx wide (AExp a ∷ AExp (ELit v) ∷ AExp (ELit 7) ∷ []) [] (oa, (ov, (seven, tt))) tt) (refl_proves sig e d room ctx wide all oall) in
       let p2 : Says (FRel Eq all (EOp Band a (ELit 0))) second =
       move_eq all (EOp Band (up a) (EVar 0)) inner (ELit 0) oall (over-up sig a ctx exp oa, refl, refl) (ov, seven, refl) none (exp_encoding (EOp Band a inner)) (exp_encoding (EOp Band a (ELit 0)))
       (ap (λ z. op_term Band z (exp_encoding inner)) (plain_subst-up a (exp_encoding inner))) (ap (λ z. op_term Band z (lit 0)) (plain_subst-up a (lit 0))) (calc Band v 7) first (calc_zero v ov q) p1 in
-      move_eq all (EVar 0) (EOp Band a (ELit 0)) (ELit 0) oall refl (oa, none, refl) none (exp_encoding (EOp Band a (ELit 0))) (lit 0) refl refl (word_rule 53 (a ∷ []) []) second
-      (rule_proves sig e d room 53 _ refl ctx wide (AExp a ∷ []) [] (oa, tt) tt) p2
+      move_eq all (EVar 0) (EOp Band a (ELit 0)) (ELit 0) oall refl (oa, none, refl) none (exp_encoding (EOp Band a (ELit 0))) (lit 0) refl refl (word_rule AND_ZERO (a ∷ []) []) second
+      (rule_proves sig e d room AND_ZERO _ refl ctx wide (AExp a ∷ []) [] (oa, tt) tt) p2
 
   module _ (Γ : Hyps) (are : AreHyps sig (e + d) d k ctx Γ) where
     either : (a : Exp) (p : Tree) → OverExp sig a ctx → (alignment_proof Γ a ≡ Some p → Says (aligned_form a) p) → first_of (find_hyp Γ (aligned_form a)) (alignment_proof Γ a) ≡ Some p → Says (aligned_form a) p
@@ -78,14 +79,14 @@ module _ (sig : WordSignature) (e d : ℕ) (room : e + (d + d + d) + 16 ≤ 2 ^ 
         alignment_proof Γ (EOp Add a b) ≡ Some p → Says (aligned_form (EOp Add a b)) p
     unfolding the_rules
     sum_says a b p oa ob fa fb q =
-        let x = bind_some (first_of (find_hyp Γ (aligned_form a)) (alignment_proof Γ a)) (λ p. option_map (λ q. word_rule 57 (a ∷ b ∷ []) (p ∷ q ∷ [])) (first_of (find_hyp Γ (aligned_form b)) (alignment_proof Γ b))) p q in
-        let y = map_some (first_of (find_hyp Γ (aligned_form b)) (alignment_proof Γ b)) (λ q. word_rule 57 (a ∷ b ∷ []) (x.0 ∷ q ∷ [])) p x.2 in
+        let x = bind_some (first_of (find_hyp Γ (aligned_form a)) (alignment_proof Γ a)) (λ p. option_map (λ q. word_rule ADD_AL (a ∷ b ∷ []) (p ∷ q ∷ [])) (first_of (find_hyp Γ (aligned_form b)) (alignment_proof Γ b))) p q in
+        let y = map_some (first_of (find_hyp Γ (aligned_form b)) (alignment_proof Γ b)) (λ q. word_rule ADD_AL (a ∷ b ∷ []) (x.0 ∷ q ∷ [])) p x.2 in
         subst (λ z. Says (aligned_form (EOp Add a b)) z) y.2
-        (rule_proves sig e d room 57 _ refl ctx wide (AExp a ∷ AExp b ∷ []) (x.0 ∷ y.0 ∷ []) (oa, (ob, tt)) (either a x.0 oa (fa x.0) x.1, (either b y.0 ob (fb y.0) y.1, tt)))
+        (rule_proves sig e d room ADD_AL _ refl ctx wide (AExp a ∷ AExp b ∷ []) (x.0 ∷ y.0 ∷ []) (oa, (ob, tt)) (either a x.0 oa (fa x.0) x.1, (either b y.0 ob (fb y.0) y.1, tt)))
 
-    sll_says : (a : Exp) → OverExp sig a ctx → Says (aligned_form (EOp Sll a (ELit 3))) (word_rule 58 (a ∷ []) [])
+    sll_says : (a : Exp) → OverExp sig a ctx → Says (aligned_form (EOp Sll a (ELit 3))) (word_rule SLL_AL (a ∷ []) [])
     unfolding the_rules
-    sll_says a oa = rule_proves sig e d room 58 _ refl ctx wide (AExp a ∷ []) [] (oa, tt) tt
+    sll_says a oa = rule_proves sig e d room SLL_AL _ refl ctx wide (AExp a ∷ []) [] (oa, tt) tt
 
     aligned_says : (a : Exp) (p : Tree) → OverExp sig a ctx → alignment_proof Γ a ≡ Some p → Says (aligned_form a) p
     aligned_says (ELit v) p o q = let c = if_some (v % 8 == 0) (calc Band v 7) p q in subst (λ z. Says (aligned_form (ELit v)) z) c.1 (calc_zero v o c.0)
@@ -101,31 +102,31 @@ module _ (sig : WordSignature) (e d : ℕ) (room : e + (d + d + d) + 16 ≤ 2 ^ 
     ule_says : (a b : Exp) (v u : WordBound) (p : Tree) → OverExp sig a ctx → OverExp sig b ctx → IsUpper sig e d room some k ctx w a v → IsLower sig e d room some k ctx w b u → ule_by a b v u ≡ Some p → Says (FRel Ule a b) p
     unfolding the_rules
     ule_says a b v u p oa ob hv hu q =
-        let second = word_rule 64 (ELit v.value ∷ ELit u.value ∷ b ∷ []) (fact Ule v.value u.value ∷ u.proof ∷ []) in
-        let c = if_some (nat_le v.value u.value) (word_rule 64 (a ∷ ELit v.value ∷ b ∷ []) (v.proof ∷ second ∷ [])) p q in
+        let second = word_rule ULE_TRANS (ELit v.value ∷ ELit u.value ∷ b ∷ []) (fact Ule v.value u.value ∷ u.proof ∷ []) in
+        let c = if_some (nat_le v.value u.value) (word_rule ULE_TRANS (a ∷ ELit v.value ∷ b ∷ []) (v.proof ∷ second ∷ [])) p q in
         let s : Says (FRel Ule (ELit v.value) b) second =
-        rule_proves sig e d room 64 _ refl ctx wide (AExp (ELit v.value) ∷ AExp (ELit u.value) ∷ AExp b ∷ []) (fact Ule v.value u.value ∷ u.proof ∷ []) (hv.word, (hu.word, (ob, tt)))
+        rule_proves sig e d room ULE_TRANS _ refl ctx wide (AExp (ELit v.value) ∷ AExp (ELit u.value) ∷ AExp b ∷ []) (fact Ule v.value u.value ∷ u.proof ∷ []) (hv.word, (hu.word, (ob, tt)))
         (fact_proves sig (e + d) ctx Ule v.value u.value hv.word hu.word c.0, (hu.proved, tt)) in
-        subst (λ z. Says (FRel Ule a b) z) c.1 (rule_proves sig e d room 64 _ refl ctx wide (AExp a ∷ AExp (ELit v.value) ∷ AExp b ∷ []) (v.proof ∷ second ∷ []) (oa, (hv.word, (ob, tt))) (hv.proved, (s, tt)))
+        subst (λ z. Says (FRel Ule a b) z) c.1 (rule_proves sig e d room ULE_TRANS _ refl ctx wide (AExp a ∷ AExp (ELit v.value) ∷ AExp b ∷ []) (v.proof ∷ second ∷ []) (oa, (hv.word, (ob, tt))) (hv.proved, (s, tt)))
 
     ult_says : (a b : Exp) (v u : WordBound) (p : Tree) → OverExp sig a ctx → OverExp sig b ctx → IsUpper sig e d room some k ctx w a v → IsLower sig e d room some k ctx w b u → ult_by a b v u ≡ Some p → Says (FRel Ult a b) p
     unfolding the_rules
     ult_says a b v u p oa ob hv hu q =
-        let first = word_rule 67 (a ∷ ELit v.value ∷ ELit u.value ∷ []) (v.proof ∷ fact Ult v.value u.value ∷ []) in
-        let c = if_some (nat_lt v.value u.value) (word_rule 66 (a ∷ ELit u.value ∷ b ∷ []) (first ∷ u.proof ∷ [])) p q in
+        let first = word_rule LE_LT (a ∷ ELit v.value ∷ ELit u.value ∷ []) (v.proof ∷ fact Ult v.value u.value ∷ []) in
+        let c = if_some (nat_lt v.value u.value) (word_rule LT_LE (a ∷ ELit u.value ∷ b ∷ []) (first ∷ u.proof ∷ [])) p q in
         let s : Says (FRel Ult a (ELit u.value)) first =
-        rule_proves sig e d room 67 _ refl ctx wide (AExp a ∷ AExp (ELit v.value) ∷ AExp (ELit u.value) ∷ []) (v.proof ∷ fact Ult v.value u.value ∷ []) (oa, (hv.word, (hu.word, tt)))
+        rule_proves sig e d room LE_LT _ refl ctx wide (AExp a ∷ AExp (ELit v.value) ∷ AExp (ELit u.value) ∷ []) (v.proof ∷ fact Ult v.value u.value ∷ []) (oa, (hv.word, (hu.word, tt)))
         (hv.proved, (fact_proves sig (e + d) ctx Ult v.value u.value hv.word hu.word c.0, tt)) in
-        subst (λ z. Says (FRel Ult a b) z) c.1 (rule_proves sig e d room 66 _ refl ctx wide (AExp a ∷ AExp (ELit u.value) ∷ AExp b ∷ []) (first ∷ u.proof ∷ []) (oa, (hu.word, (ob, tt))) (s, (hu.proved, tt)))
+        subst (λ z. Says (FRel Ult a b) z) c.1 (rule_proves sig e d room LT_LE _ refl ctx wide (AExp a ∷ AExp (ELit u.value) ∷ AExp b ∷ []) (first ∷ u.proof ∷ []) (oa, (hu.word, (ob, tt))) (s, (hu.proved, tt)))
 
-    weaker : (a b : Exp) (p : Tree) → OverExp sig a ctx → OverExp sig b ctx → option_map (λ h. word_rule 65 (a ∷ b ∷ []) (h ∷ [])) (find_hyp Γ (FRel Ult a b)) ≡ Some p → Says (FRel Ule a b) p
+    weaker : (a b : Exp) (p : Tree) → OverExp sig a ctx → OverExp sig b ctx → option_map (λ h. word_rule ULT_ULE (a ∷ b ∷ []) (h ∷ [])) (find_hyp Γ (FRel Ult a b)) ≡ Some p → Says (FRel Ule a b) p
     unfolding the_rules
     weaker a b p oa ob q =
-        let m = map_some (find_hyp Γ (FRel Ult a b)) (λ h. word_rule 65 (a ∷ b ∷ []) (h ∷ [])) p q in
-        subst (λ z. Says (FRel Ule a b) z) m.2 (rule_proves sig e d room 65 _ refl ctx wide (AExp a ∷ AExp b ∷ []) (m.0 ∷ []) (oa, (ob, tt)) (find_proves sig (e + d) d k ctx Γ are (FRel Ult a b) m.0 m.1, tt))
+        let m = map_some (find_hyp Γ (FRel Ult a b)) (λ h. word_rule ULT_ULE (a ∷ b ∷ []) (h ∷ [])) p q in
+        subst (λ z. Says (FRel Ule a b) z) m.2 (rule_proves sig e d room ULT_ULE _ refl ctx wide (AExp a ∷ AExp b ∷ []) (m.0 ∷ []) (oa, (ob, tt)) (find_proves sig (e + d) d k ctx Γ are (FRel Ult a b) m.0 m.1, tt))
 
-    module _ (counted : Bool) (rule : counted ≡ true → 104 < size_of sig) where
-      ule_either : (a b : Exp) (p : Tree) → OverExp sig a ctx → OverExp sig b ctx → (option_map (λ h. word_rule 65 (a ∷ b ∷ []) (h ∷ [])) (find_hyp Γ (FRel Ult a b)) ≡ Some p) ⊎ (ule_by a b (upper_bound Γ a) (lower_bound counted Γ b) ≡ Some p) → Says (FRel Ule a b) p
+    module _ (counted : Bool) (rule : counted ≡ true → SUB_LO < size_of sig) where
+      ule_either : (a b : Exp) (p : Tree) → OverExp sig a ctx → OverExp sig b ctx → (option_map (λ h. word_rule ULT_ULE (a ∷ b ∷ []) (h ∷ [])) (find_hyp Γ (FRel Ult a b)) ≡ Some p) ⊎ (ule_by a b (upper_bound Γ a) (lower_bound counted Γ b) ≡ Some p) → Says (FRel Ule a b) p
       ule_either a b p oa ob (inl q) = weaker a b p oa ob q
       ule_either a b p oa ob (inr q) =
           ule_says a b (upper_bound Γ a) (lower_bound counted Γ b) p oa ob
@@ -135,7 +136,7 @@ module _ (sig : WordSignature) (e d : ℕ) (room : e + (d + d + d) + 16 ≤ 2 ^ 
       pub by_bounds_says : (A : Form) (p : Tree) → Over sig A ctx → by_bounds counted Γ A ≡ Some p → Says A p
       by_bounds_says (FRel Ule a b) p o q =
           ule_either a b p o.0 o.1
-          (else_some (option_map (λ h. word_rule 65 (a ∷ b ∷ []) (h ∷ [])) (find_hyp Γ (FRel Ult a b)))
+          (else_some (option_map (λ h. word_rule ULT_ULE (a ∷ b ∷ []) (h ∷ [])) (find_hyp Γ (FRel Ult a b)))
           (ule_by a b (upper_bound Γ a) (lower_bound counted Γ b)) p q)
       by_bounds_says (FRel Ult a b) p o q =
           ult_says a b (upper_bound Γ a) (lower_bound counted Γ b) p o.0 o.1

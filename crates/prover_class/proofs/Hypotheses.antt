@@ -23,7 +23,8 @@ use Rattle.lf_terms.specs.ProofTerms.{AExp, AForm, and_l, and_r, word_rule}
 use Rattle.prover_class.specs.Hypotheses.{Hyps, same_form, find_hyp, raised_hyps, compared, comparison, test_rule, other_hyps, test_hyps, tested_hyps, split_hyps, added, with_new}
 use Rattle.prover_class.proofs.Proved.{Proves, Stays, IsHyp, AreHyps}
 use Rattle.prover_class.proofs.Uses.{rule_stays, stays_now, nesting-shift}
-use Rattle.lf_signature.specs.declared.WordSignature.{WordSignature}
+use Rattle.lf_signature.specs.declared.editions.WordSignature.{WordSignature}
+use Rattle.lf_signature.specs.declared.numbers.TheConstants.{AND_L, AND_R, CMP_NO, CMP_YES, NOT_LT}
 
 pub append_are : (sig : WordSignature) (bound d k : ℕ) (ctx : List Tree) (l m : Hyps) → AreHyps sig bound d k ctx l → AreHyps sig bound d k ctx m → AreHyps sig bound d k ctx (l ++ m)
 append_are sig bound d k ctx [] m h g = g
@@ -97,22 +98,22 @@ module _ (sig : WordSignature) (e d : ℕ) (room : e + (d + d + d) + 16 ≤ 2 ^ 
     unfolding the_rules
     and_l_hyp A B h i =
         let n : (nesting A ≤ d) × (nesting B ≤ d) = (omega (arith, i.nesting), omega (arith, i.nesting)) in
-        record { over = i.over.0; nesting = n.0; stays = rule_stays sig e d room 30 _ refl (SAnd (FPar 0) (FPar 1)) refl refl k ctx w (AForm A ∷ AForm B ∷ []) ((i.over.0, n.0), ((i.over.1, n.1), tt)) h i.stays }
+        record { over = i.over.0; nesting = n.0; stays = rule_stays sig e d room AND_L _ refl (SAnd (FPar 0) (FPar 1)) refl refl k ctx w (AForm A ∷ AForm B ∷ []) ((i.over.0, n.0), ((i.over.1, n.1), tt)) h i.stays }
 
     and_r_hyp : (A B : Form) (h : Tree) → Hyp (FAnd A B) h → Hyp B (and_r A B h)
     unfolding the_rules
     and_r_hyp A B h i =
         let n : (nesting A ≤ d) × (nesting B ≤ d) = (omega (arith, i.nesting), omega (arith, i.nesting)) in
-        record { over = i.over.1; nesting = n.1; stays = rule_stays sig e d room 31 _ refl (SAnd (FPar 0) (FPar 1)) refl refl k ctx w (AForm A ∷ AForm B ∷ []) ((i.over.0, n.0), ((i.over.1, n.1), tt)) h i.stays }
+        record { over = i.over.1; nesting = n.1; stays = rule_stays sig e d room AND_R _ refl (SAnd (FPar 0) (FPar 1)) refl refl k ctx w (AForm A ∷ AForm B ∷ []) ((i.over.0, n.0), ((i.over.1, n.1), tt)) h i.stays }
 
-    not_lt_hyp : (a b : Exp) (h : Tree) → Hyp (FImp (FRel Ult a b) FFalse) h → Hyp (FRel Ule b a) (word_rule 70 (a ∷ b ∷ []) (h ∷ []))
+    not_lt_hyp : (a b : Exp) (h : Tree) → Hyp (FImp (FRel Ult a b) FFalse) h → Hyp (FRel Ule b a) (word_rule NOT_LT (a ∷ b ∷ []) (h ∷ []))
     unfolding the_rules
     not_lt_hyp a b h i =
         let o : OverExp sig a ctx × OverExp sig b ctx = i.over.0 in
-        record { over = (o.1, o.0); nesting = omega arith; stays = rule_stays sig e d room 70 _ refl (SImp (SRel Ult (SPar 0) (SPar 1)) SFalse) refl refl k ctx w (AExp a ∷ AExp b ∷ []) (o.0, (o.1, tt)) h i.stays }
+        record { over = (o.1, o.0); nesting = omega arith; stays = rule_stays sig e d room NOT_LT _ refl (SImp (SRel Ult (SPar 0) (SPar 1)) SFalse) refl refl k ctx w (AExp a ∷ AExp b ∷ []) (o.0, (o.1, tt)) h i.stays }
 
     -- the tests of comparing operators
-    no_hyp : (o : Op) (p : Rel × ℕ) → compared o ≡ Some p → (a b : Exp) (h : Tree) → Hyp (FRel Eq (EOp o a b) (ELit 0)) h → Hyp (FImp (FRel p.0 a b) FFalse) (word_rule (78 + p.1) (a ∷ b ∷ []) (h ∷ []))
+    no_hyp : (o : Op) (p : Rel × ℕ) → compared o ≡ Some p → (a b : Exp) (h : Tree) → Hyp (FRel Eq (EOp o a b) (ELit 0)) h → Hyp (FImp (FRel p.0 a b) FFalse) (word_rule (CMP_NO + p.1) (a ∷ b ∷ []) (h ∷ []))
     unfolding the_rules
     no_hyp o p q a b h i = go o p q i
       where
@@ -121,18 +122,18 @@ module _ (sig : WordSignature) (e d : ℕ) (room : e + (d + d + d) + 16 ≤ 2 ^ 
         at_op o r j s i =
             record { over = ((i.over.0.0, i.over.0.1), tt); nesting = omega (arith, some); stays = s }
 
-        move_to : (o : Op) (p u : Rel × ℕ) → Some u ≡ Some p → Hyp (FImp (FRel u.0 a b) FFalse) (word_rule (78 + u.1) (a ∷ b ∷ []) (h ∷ [])) → Hyp (FImp (FRel p.0 a b) FFalse) (word_rule (78 + p.1) (a ∷ b ∷ []) (h ∷ []))
-        move_to o p u q g = subst (λ z. Hyp (FImp (FRel z.0 a b) FFalse) (word_rule (78 + z.1) (a ∷ b ∷ []) (h ∷ []))) (some_injective q) g
+        move_to : (o : Op) (p u : Rel × ℕ) → Some u ≡ Some p → Hyp (FImp (FRel u.0 a b) FFalse) (word_rule (CMP_NO + u.1) (a ∷ b ∷ []) (h ∷ [])) → Hyp (FImp (FRel p.0 a b) FFalse) (word_rule (CMP_NO + p.1) (a ∷ b ∷ []) (h ∷ []))
+        move_to o p u q g = subst (λ z. Hyp (FImp (FRel z.0 a b) FFalse) (word_rule (CMP_NO + z.1) (a ∷ b ∷ []) (h ∷ []))) (some_injective q) g
 
-        go : (o : Op) (p : Rel × ℕ) → compared o ≡ Some p → Hyp (FRel Eq (EOp o a b) (ELit 0)) h → Hyp (FImp (FRel p.0 a b) FFalse) (word_rule (78 + p.1) (a ∷ b ∷ []) (h ∷ []))
-        go Cmpeq p q i = move_to Cmpeq p (Eq, 0) q (at_op Cmpeq Eq 78 (rule_stays sig e d room 78 _ refl (SRel Eq (SOp Cmpeq (SPar 0) (SPar 1)) (SLit 0)) refl refl k ctx w (AExp a ∷ AExp b ∷ []) (i.over.0.0, (i.over.0.1, tt)) h i.stays) i)
-        go Cmplt p q i = move_to Cmplt p (Slt, 1) q (at_op Cmplt Slt 79 (rule_stays sig e d room 79 _ refl (SRel Eq (SOp Cmplt (SPar 0) (SPar 1)) (SLit 0)) refl refl k ctx w (AExp a ∷ AExp b ∷ []) (i.over.0.0, (i.over.0.1, tt)) h i.stays) i)
-        go Cmple p q i = move_to Cmple p (Sle, 2) q (at_op Cmple Sle 80 (rule_stays sig e d room 80 _ refl (SRel Eq (SOp Cmple (SPar 0) (SPar 1)) (SLit 0)) refl refl k ctx w (AExp a ∷ AExp b ∷ []) (i.over.0.0, (i.over.0.1, tt)) h i.stays) i)
-        go Cmpult p q i = move_to Cmpult p (Ult, 3) q (at_op Cmpult Ult 81 (rule_stays sig e d room 81 _ refl (SRel Eq (SOp Cmpult (SPar 0) (SPar 1)) (SLit 0)) refl refl k ctx w (AExp a ∷ AExp b ∷ []) (i.over.0.0, (i.over.0.1, tt)) h i.stays) i)
-        go Cmpule p q i = move_to Cmpule p (Ule, 4) q (at_op Cmpule Ule 82 (rule_stays sig e d room 82 _ refl (SRel Eq (SOp Cmpule (SPar 0) (SPar 1)) (SLit 0)) refl refl k ctx w (AExp a ∷ AExp b ∷ []) (i.over.0.0, (i.over.0.1, tt)) h i.stays) i)
+        go : (o : Op) (p : Rel × ℕ) → compared o ≡ Some p → Hyp (FRel Eq (EOp o a b) (ELit 0)) h → Hyp (FImp (FRel p.0 a b) FFalse) (word_rule (CMP_NO + p.1) (a ∷ b ∷ []) (h ∷ []))
+        go Cmpeq p q i = move_to Cmpeq p (Eq, 0) q (at_op Cmpeq Eq CMP_NO (rule_stays sig e d room CMP_NO _ refl (SRel Eq (SOp Cmpeq (SPar 0) (SPar 1)) (SLit 0)) refl refl k ctx w (AExp a ∷ AExp b ∷ []) (i.over.0.0, (i.over.0.1, tt)) h i.stays) i)
+        go Cmplt p q i = move_to Cmplt p (Slt, 1) q (at_op Cmplt Slt (CMP_NO + 1) (rule_stays sig e d room (CMP_NO + 1) _ refl (SRel Eq (SOp Cmplt (SPar 0) (SPar 1)) (SLit 0)) refl refl k ctx w (AExp a ∷ AExp b ∷ []) (i.over.0.0, (i.over.0.1, tt)) h i.stays) i)
+        go Cmple p q i = move_to Cmple p (Sle, 2) q (at_op Cmple Sle (CMP_NO + 2) (rule_stays sig e d room (CMP_NO + 2) _ refl (SRel Eq (SOp Cmple (SPar 0) (SPar 1)) (SLit 0)) refl refl k ctx w (AExp a ∷ AExp b ∷ []) (i.over.0.0, (i.over.0.1, tt)) h i.stays) i)
+        go Cmpult p q i = move_to Cmpult p (Ult, 3) q (at_op Cmpult Ult (CMP_NO + 3) (rule_stays sig e d room (CMP_NO + 3) _ refl (SRel Eq (SOp Cmpult (SPar 0) (SPar 1)) (SLit 0)) refl refl k ctx w (AExp a ∷ AExp b ∷ []) (i.over.0.0, (i.over.0.1, tt)) h i.stays) i)
+        go Cmpule p q i = move_to Cmpule p (Ule, 4) q (at_op Cmpule Ule (CMP_NO + 4) (rule_stays sig e d room (CMP_NO + 4) _ refl (SRel Eq (SOp Cmpule (SPar 0) (SPar 1)) (SLit 0)) refl refl k ctx w (AExp a ∷ AExp b ∷ []) (i.over.0.0, (i.over.0.1, tt)) h i.stays) i)
         go _ p q i = cc
 
-    yes_hyp : (o : Op) (p : Rel × ℕ) → compared o ≡ Some p → (a b : Exp) (h : Tree) → Hyp (FImp (FRel Eq (EOp o a b) (ELit 0)) FFalse) h → Hyp (FRel p.0 a b) (word_rule (73 + p.1) (a ∷ b ∷ []) (h ∷ []))
+    yes_hyp : (o : Op) (p : Rel × ℕ) → compared o ≡ Some p → (a b : Exp) (h : Tree) → Hyp (FImp (FRel Eq (EOp o a b) (ELit 0)) FFalse) h → Hyp (FRel p.0 a b) (word_rule (CMP_YES + p.1) (a ∷ b ∷ []) (h ∷ []))
     unfolding the_rules
     yes_hyp o p q a b h i = go o p q i
       where
@@ -140,15 +141,15 @@ module _ (sig : WordSignature) (e d : ℕ) (room : e + (d + d + d) + 16 ≤ 2 ^ 
         at_op o r j s i =
             record { over = (i.over.0.0.0, i.over.0.0.1); nesting = omega arith; stays = s }
 
-        move_to : (o : Op) (p u : Rel × ℕ) → Some u ≡ Some p → Hyp (FRel u.0 a b) (word_rule (73 + u.1) (a ∷ b ∷ []) (h ∷ [])) → Hyp (FRel p.0 a b) (word_rule (73 + p.1) (a ∷ b ∷ []) (h ∷ []))
-        move_to o p u q g = subst (λ z. Hyp (FRel z.0 a b) (word_rule (73 + z.1) (a ∷ b ∷ []) (h ∷ []))) (some_injective q) g
+        move_to : (o : Op) (p u : Rel × ℕ) → Some u ≡ Some p → Hyp (FRel u.0 a b) (word_rule (CMP_YES + u.1) (a ∷ b ∷ []) (h ∷ [])) → Hyp (FRel p.0 a b) (word_rule (CMP_YES + p.1) (a ∷ b ∷ []) (h ∷ []))
+        move_to o p u q g = subst (λ z. Hyp (FRel z.0 a b) (word_rule (CMP_YES + z.1) (a ∷ b ∷ []) (h ∷ []))) (some_injective q) g
 
-        go : (o : Op) (p : Rel × ℕ) → compared o ≡ Some p → Hyp (FImp (FRel Eq (EOp o a b) (ELit 0)) FFalse) h → Hyp (FRel p.0 a b) (word_rule (73 + p.1) (a ∷ b ∷ []) (h ∷ []))
-        go Cmpeq p q i = move_to Cmpeq p (Eq, 0) q (at_op Cmpeq Eq 73 (rule_stays sig e d room 73 _ refl (SImp (SRel Eq (SOp Cmpeq (SPar 0) (SPar 1)) (SLit 0)) SFalse) refl refl k ctx w (AExp a ∷ AExp b ∷ []) (i.over.0.0.0, (i.over.0.0.1, tt)) h i.stays) i)
-        go Cmplt p q i = move_to Cmplt p (Slt, 1) q (at_op Cmplt Slt 74 (rule_stays sig e d room 74 _ refl (SImp (SRel Eq (SOp Cmplt (SPar 0) (SPar 1)) (SLit 0)) SFalse) refl refl k ctx w (AExp a ∷ AExp b ∷ []) (i.over.0.0.0, (i.over.0.0.1, tt)) h i.stays) i)
-        go Cmple p q i = move_to Cmple p (Sle, 2) q (at_op Cmple Sle 75 (rule_stays sig e d room 75 _ refl (SImp (SRel Eq (SOp Cmple (SPar 0) (SPar 1)) (SLit 0)) SFalse) refl refl k ctx w (AExp a ∷ AExp b ∷ []) (i.over.0.0.0, (i.over.0.0.1, tt)) h i.stays) i)
-        go Cmpult p q i = move_to Cmpult p (Ult, 3) q (at_op Cmpult Ult 76 (rule_stays sig e d room 76 _ refl (SImp (SRel Eq (SOp Cmpult (SPar 0) (SPar 1)) (SLit 0)) SFalse) refl refl k ctx w (AExp a ∷ AExp b ∷ []) (i.over.0.0.0, (i.over.0.0.1, tt)) h i.stays) i)
-        go Cmpule p q i = move_to Cmpule p (Ule, 4) q (at_op Cmpule Ule 77 (rule_stays sig e d room 77 _ refl (SImp (SRel Eq (SOp Cmpule (SPar 0) (SPar 1)) (SLit 0)) SFalse) refl refl k ctx w (AExp a ∷ AExp b ∷ []) (i.over.0.0.0, (i.over.0.0.1, tt)) h i.stays) i)
+        go : (o : Op) (p : Rel × ℕ) → compared o ≡ Some p → Hyp (FImp (FRel Eq (EOp o a b) (ELit 0)) FFalse) h → Hyp (FRel p.0 a b) (word_rule (CMP_YES + p.1) (a ∷ b ∷ []) (h ∷ []))
+        go Cmpeq p q i = move_to Cmpeq p (Eq, 0) q (at_op Cmpeq Eq CMP_YES (rule_stays sig e d room CMP_YES _ refl (SImp (SRel Eq (SOp Cmpeq (SPar 0) (SPar 1)) (SLit 0)) SFalse) refl refl k ctx w (AExp a ∷ AExp b ∷ []) (i.over.0.0.0, (i.over.0.0.1, tt)) h i.stays) i)
+        go Cmplt p q i = move_to Cmplt p (Slt, 1) q (at_op Cmplt Slt (CMP_YES + 1) (rule_stays sig e d room (CMP_YES + 1) _ refl (SImp (SRel Eq (SOp Cmplt (SPar 0) (SPar 1)) (SLit 0)) SFalse) refl refl k ctx w (AExp a ∷ AExp b ∷ []) (i.over.0.0.0, (i.over.0.0.1, tt)) h i.stays) i)
+        go Cmple p q i = move_to Cmple p (Sle, 2) q (at_op Cmple Sle (CMP_YES + 2) (rule_stays sig e d room (CMP_YES + 2) _ refl (SImp (SRel Eq (SOp Cmple (SPar 0) (SPar 1)) (SLit 0)) SFalse) refl refl k ctx w (AExp a ∷ AExp b ∷ []) (i.over.0.0.0, (i.over.0.0.1, tt)) h i.stays) i)
+        go Cmpult p q i = move_to Cmpult p (Ult, 3) q (at_op Cmpult Ult (CMP_YES + 3) (rule_stays sig e d room (CMP_YES + 3) _ refl (SImp (SRel Eq (SOp Cmpult (SPar 0) (SPar 1)) (SLit 0)) SFalse) refl refl k ctx w (AExp a ∷ AExp b ∷ []) (i.over.0.0.0, (i.over.0.0.1, tt)) h i.stays) i)
+        go Cmpule p q i = move_to Cmpule p (Ule, 4) q (at_op Cmpule Ule (CMP_YES + 4) (rule_stays sig e d room (CMP_YES + 4) _ refl (SImp (SRel Eq (SOp Cmpule (SPar 0) (SPar 1)) (SLit 0)) SFalse) refl refl k ctx w (AExp a ∷ AExp b ∷ []) (i.over.0.0.0, (i.over.0.0.1, tt)) h i.stays) i)
         go _ p q i = cc
 
     test_hyp : (is_zero : Bool) (o : Op) (p : Rel × ℕ) → compared o ≡ Some p → (a b : Exp) (h : Tree) →

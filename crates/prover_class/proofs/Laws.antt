@@ -16,8 +16,9 @@ use Rattle.prover_class.specs.Parts.{conjoined, part_proof, condition_proof, ref
 use Rattle.prover_class.proofs.Scope.{OverExp, OverMem, Over, nesting}
 use Rattle.prover_class.proofs.Parts.{class_checks}
 use Rattle.prover_class.proofs.Signatures.{declared-operator}
-use Rattle.lf_signature.specs.declared.WordSignature.{WordSignature}
+use Rattle.lf_signature.specs.declared.editions.WordSignature.{WordSignature}
 use Rattle.lf_signature.specs.Known.{HasOp}
+use Rattle.lf_signature.specs.declared.numbers.TheConstants.{SUB_LO}
 use Rattle.formula_tree.specs.Operators.{UsesExp, UsesMem, Uses}
 
 module _ (sig : WordSignature) where
@@ -66,7 +67,7 @@ nesting-height (FAll A) = omega (arith, nesting-height A)
 nesting-height (FAllm A) = omega (arith, nesting-height A)
 
 pub sound : (sig : WordSignature) (counted : Bool) (parts : List Form) (p : Tree)
-    → (counted ≡ true → 104 < size_of sig) → IsOver 0 (conjoined parts) []
+    → (counted ≡ true → SUB_LO < size_of sig) → IsOver 0 (conjoined parts) []
     → Uses (HasOp (declared sig)) (conjoined parts) → form_height (conjoined parts) ≤ 2 ^ 29
     → condition_proof counted parts ≡ Some p
     → Checks (declared sig) [] p (pf (form_encoding (conjoined parts)))

@@ -26,7 +26,8 @@ use Rattle.prover_class.proofs.Encoded.{shift-form_encoding, plain_subst-shift, 
 use Rattle.lf_terms.specs.ProofTerms.{AExp, AForm, AAll, AAllm, imp_i, all_i, all_e, allm_i, eq_refl, move, up, swap, calc, fact}
 use Rattle.prover_class.proofs.Proved.{Proves}
 use Rattle.prover_class.proofs.Uses.{rule_proves}
-use Rattle.lf_signature.specs.declared.WordSignature.{WordSignature}
+use Rattle.lf_signature.specs.declared.editions.WordSignature.{WordSignature}
+use Rattle.lf_signature.specs.declared.numbers.TheConstants.{ALLM_I, ALL_E, ALL_I, EQ_REFL, EQ_SUB, IMP_I}
 
 raise-step : (c n : ℕ) → c ≤ n → raise 1 c n ≡ suc n
 raise-step zero n h = one-add n
@@ -98,21 +99,21 @@ module _ (sig : WordSignature) (e d : ℕ) (room : e + (d + d + d) + 16 ≤ 2 ^ 
       Proves sig (e + d) (pf (form_encoding A) ∷ ctx) (pf (form_encoding (shift_form 1 0 B))) p → Proves sig (e + d) ctx (pf (form_encoding (FImp A B))) (imp_i A B p)
   unfolding the_rules
   imp_i_proves ctx w A B oA nA oB nB p h =
-      rule_proves sig e d room 35 _ refl ctx w (AForm A ∷ AForm B ∷ []) (Lam p ∷ []) ((oA, nA), ((oB, nB), tt))
+      rule_proves sig e d room IMP_I _ refl ctx w (AForm A ∷ AForm B ∷ []) (Lam p ∷ []) ((oA, nA), ((oB, nB), tt))
       (record { checks = lam_checks (subst (λ z. Checks (declared sig) (pf (form_encoding A) ∷ ctx) p (pf z)) (sym (shift-form_encoding B 1 0)) h.checks); room = h.room }, tt)
 
   pub all_i_proves : (ctx : List Tree) → length ctx ≤ e → (A : Form) → Over sig A (exp ∷ ctx) → nesting A < d → (p : Tree) →
       Proves sig (e + d) (exp ∷ ctx) (pf (form_encoding A)) p → Proves sig (e + d) ctx (pf (form_encoding (FAll A))) (all_i A p)
   unfolding the_rules
   all_i_proves ctx w A oA nA p h =
-      rule_proves sig e d room 38 _ refl ctx w (AAll A ∷ []) (Lam p ∷ []) ((oA, nA), tt)
+      rule_proves sig e d room ALL_I _ refl ctx w (AAll A ∷ []) (Lam p ∷ []) ((oA, nA), tt)
       (record { checks = lam_checks (subst (λ z. Checks (declared sig) (exp ∷ ctx) p (pf z)) (sym (plain_subst-own (form_encoding A) 0)) h.checks); room = h.room }, tt)
 
   pub allm_i_proves : (ctx : List Tree) → length ctx ≤ e → (A : Form) → Over sig A (mem ∷ ctx) → nesting A < d → (p : Tree) →
       Proves sig (e + d) (mem ∷ ctx) (pf (form_encoding A)) p → Proves sig (e + d) ctx (pf (form_encoding (FAllm A))) (allm_i A p)
   unfolding the_rules
   allm_i_proves ctx w A oA nA p h =
-      rule_proves sig e d room 40 _ refl ctx w (AAllm A ∷ []) (Lam p ∷ []) ((oA, nA), tt)
+      rule_proves sig e d room ALLM_I _ refl ctx w (AAllm A ∷ []) (Lam p ∷ []) ((oA, nA), tt)
       (record { checks = lam_checks (subst (λ z. Checks (declared sig) (mem ∷ ctx) p (pf z)) (sym (plain_subst-own (form_encoding A) 0)) h.checks); room = h.room }, tt)
 
   pub all_e_proves : (ctx : List Tree) → length ctx ≤ e → (A : Form) (a : Exp) → Over sig A (exp ∷ ctx) → nesting A < d → OverExp sig a ctx → (p : Tree) →
@@ -120,7 +121,7 @@ module _ (sig : WordSignature) (e d : ℕ) (room : e + (d + d + d) + 16 ≤ 2 ^ 
   unfolding the_rules
   all_e_proves ctx w A a oA nA oa p h =
       subst (λ z. Proves sig (e + d) ctx (pf z) (all_e A a p)) (subst-form_encoding sig A 0 a ctx (exp ∷ ctx) (splits_first ctx) oA)
-      (rule_proves sig e d room 39 _ refl ctx w (AAll A ∷ AExp a ∷ []) (p ∷ []) ((oA, nA), (oa, tt))
+      (rule_proves sig e d room ALL_E _ refl ctx w (AAll A ∷ AExp a ∷ []) (p ∷ []) ((oA, nA), (oa, tt))
       (h, tt))
 
   pub move_proves : (ctx : List Tree) → length ctx ≤ e → (A : Form) (a b : Exp) → Over sig A (exp ∷ ctx) → nesting A < d → OverExp sig a ctx → OverExp sig b ctx → (from to p q : Tree) →
@@ -129,12 +130,12 @@ module _ (sig : WordSignature) (e d : ℕ) (room : e + (d + d + d) + 16 ≤ 2 ^ 
   unfolding the_rules
   move_proves ctx w A a b oA nA oa ob from to p q ef et hp hq =
       subst (λ z. Proves sig (e + d) ctx (pf z) (move A a b p q)) et
-      (rule_proves sig e d room 43 _ refl ctx w (AAll A ∷ AExp a ∷ AExp b ∷ []) (p ∷ q ∷ []) ((oA, nA), (oa, (ob, tt)))
+      (rule_proves sig e d room EQ_SUB _ refl ctx w (AAll A ∷ AExp a ∷ AExp b ∷ []) (p ∷ q ∷ []) ((oA, nA), (oa, (ob, tt)))
       (hp, (subst (λ z. Proves sig (e + d) ctx (pf z) q) (sym ef) hq, tt)))
 
   pub refl_proves : (ctx : List Tree) → length ctx ≤ e → (a : Exp) → OverExp sig a ctx → Proves sig (e + d) ctx (pf (rel_term Eq (exp_encoding a) (exp_encoding a))) (eq_refl a)
   unfolding the_rules
-  refl_proves ctx w a oa = rule_proves sig e d room 42 _ refl ctx w (AExp a ∷ []) [] (oa, tt) tt
+  refl_proves ctx w a oa = rule_proves sig e d room EQ_REFL _ refl ctx w (AExp a ∷ []) [] (oa, tt) tt
 
   pub swap_proves : 0 < d → (ctx : List Tree) → length ctx ≤ e → (a b : Exp) → OverExp sig a ctx → OverExp sig b ctx → (p : Tree) →
       Proves sig (e + d) ctx (pf (rel_term Eq (exp_encoding a) (exp_encoding b))) p → Proves sig (e + d) ctx (pf (rel_term Eq (exp_encoding b) (exp_encoding a))) (swap a b p)

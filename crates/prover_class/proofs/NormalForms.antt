@@ -7,7 +7,7 @@ use Rattle.word_ops.specs.declared.Op.TheVariants.{Add, Sub, Band, Bis, Sll, Xor
 use Rattle.word_ops.specs.declared.Rel.{Rel}
 use Rattle.word_ops.specs.declared.Rel.TheVariants.{Eq, Ult, Ule, Slt, Sle}
 use Rattle.word_ops.specs.Words.{word_of, test_of}
-use Rattle.word_ops.proofs.Bounds.{word_of-below}
+use Rattle.word_ops.proofs.EachOp.{word_of-below}
 use Rattle.lf_signature.specs.Terms.{exp, pf, lit, op_term, rel_term}
 use Rattle.lf_signature.specs.Constants.{the_rules}
 use Rattle.lf_terms.proofs.Shifts.{spot-raise}
@@ -27,7 +27,8 @@ use Rattle.prover_class.proofs.Uses.{rule_proves}
 use Rattle.prover_class.proofs.Named.{move_proves, swap_proves, calc_proves, fact_proves, refl_proves, plain_subst-up, over-up}
 use Rattle.prover_class.proofs.Shapes.{else_some}
 use Rattle.prover_class.proofs.Goals.{if_some, move_eq}
-use Rattle.lf_signature.specs.declared.WordSignature.{WordSignature}
+use Rattle.lf_signature.specs.declared.editions.WordSignature.{WordSignature}
+use Rattle.lf_signature.specs.declared.numbers.TheConstants.{ADD_ASSOC, ADD_COMM, ADD_ZERO, BIC_DEF, BIS_ZERO, BIS_ZERO_L, S4_DEF, S8_DEF, SUB_NEG, XOR_SELF}
 
 mutual
   subst-up_exp : (b x : Exp) (c : ℕ) → subst_var_exp (shift_exp 1 c b) c (PExp x) ≡ b
@@ -88,34 +89,34 @@ module _ (sig : WordSignature) (e d : ℕ) (room : e + (d + d + d) + 16 ≤ 2 ^ 
   if_are a true l m h g = h
   if_are a false l m h g = g
 
-  comm : (a b : Exp) → OverExp sig a ctx → OverExp sig b ctx → Eqs (EOp Add a b) (EOp Add b a) (word_rule 46 (a ∷ b ∷ []) [])
+  comm : (a b : Exp) → OverExp sig a ctx → OverExp sig b ctx → Eqs (EOp Add a b) (EOp Add b a) (word_rule ADD_COMM (a ∷ b ∷ []) [])
   unfolding the_rules
-  comm a b oa ob = rule_proves sig e d room 46 _ refl ctx wide (AExp a ∷ AExp b ∷ []) [] (oa, (ob, tt)) tt
+  comm a b oa ob = rule_proves sig e d room ADD_COMM _ refl ctx wide (AExp a ∷ AExp b ∷ []) [] (oa, (ob, tt)) tt
 
-  assoc : (a b c : Exp) → OverExp sig a ctx → OverExp sig b ctx → OverExp sig c ctx → Eqs (EOp Add (EOp Add a b) c) (EOp Add a (EOp Add b c)) (word_rule 47 (a ∷ b ∷ c ∷ []) [])
+  assoc : (a b c : Exp) → OverExp sig a ctx → OverExp sig b ctx → OverExp sig c ctx → Eqs (EOp Add (EOp Add a b) c) (EOp Add a (EOp Add b c)) (word_rule ADD_ASSOC (a ∷ b ∷ c ∷ []) [])
   unfolding the_rules
-  assoc a b c oa ob oc = rule_proves sig e d room 47 _ refl ctx wide (AExp a ∷ AExp b ∷ AExp c ∷ []) [] (oa, (ob, (oc, tt))) tt
+  assoc a b c oa ob oc = rule_proves sig e d room ADD_ASSOC _ refl ctx wide (AExp a ∷ AExp b ∷ AExp c ∷ []) [] (oa, (ob, (oc, tt))) tt
 
-  negated : (a : Exp) (v : ℕ) → OverExp sig a ctx → OverExp sig (ELit v) ctx → Eqs (EOp Sub a (ELit v)) (EOp Add a (EOp Sub (ELit 0) (ELit v))) (word_rule 50 (a ∷ ELit v ∷ []) [])
+  negated : (a : Exp) (v : ℕ) → OverExp sig a ctx → OverExp sig (ELit v) ctx → Eqs (EOp Sub a (ELit v)) (EOp Add a (EOp Sub (ELit 0) (ELit v))) (word_rule SUB_NEG (a ∷ ELit v ∷ []) [])
   unfolding the_rules
-  negated a v oa ov = rule_proves sig e d room 50 _ refl ctx wide (AExp a ∷ AExp (ELit v) ∷ []) [] (oa, (ov, tt)) tt
+  negated a v oa ov = rule_proves sig e d room SUB_NEG _ refl ctx wide (AExp a ∷ AExp (ELit v) ∷ []) [] (oa, (ov, tt)) tt
 
-  add_none : (a : Exp) → OverExp sig a ctx → Eqs (EOp Add a (ELit 0)) a (word_rule 48 (a ∷ []) [])
+  add_none : (a : Exp) → OverExp sig a ctx → Eqs (EOp Add a (ELit 0)) a (word_rule ADD_ZERO (a ∷ []) [])
   unfolding the_rules
-  add_none a oa = rule_proves sig e d room 48 _ refl ctx wide (AExp a ∷ []) [] (oa, tt) tt
+  add_none a oa = rule_proves sig e d room ADD_ZERO _ refl ctx wide (AExp a ∷ []) [] (oa, tt) tt
 
-  bis_none : (a : Exp) → OverExp sig a ctx → Eqs (EOp Bis a (ELit 0)) a (word_rule 55 (a ∷ []) [])
+  bis_none : (a : Exp) → OverExp sig a ctx → Eqs (EOp Bis a (ELit 0)) a (word_rule BIS_ZERO (a ∷ []) [])
   unfolding the_rules
-  bis_none a oa = rule_proves sig e d room 55 _ refl ctx wide (AExp a ∷ []) [] (oa, tt) tt
+  bis_none a oa = rule_proves sig e d room BIS_ZERO _ refl ctx wide (AExp a ∷ []) [] (oa, tt) tt
 
-  none_bis : (a : Exp) → OverExp sig a ctx → Eqs (EOp Bis (ELit 0) a) a (word_rule 56 (a ∷ []) [])
+  none_bis : (a : Exp) → OverExp sig a ctx → Eqs (EOp Bis (ELit 0) a) a (word_rule BIS_ZERO_L (a ∷ []) [])
   unfolding the_rules
-  none_bis a oa = rule_proves sig e d room 56 _ refl ctx wide (AExp a ∷ []) [] (oa, tt) tt
+  none_bis a oa = rule_proves sig e d room BIS_ZERO_L _ refl ctx wide (AExp a ∷ []) [] (oa, tt) tt
 
   swapped_are : (out : ℕ) (a b : Exp) → OverExp sig a ctx → OverExp sig b ctx → AreSteps (EOp Add a b) (swapped out a b)
   swapped_are out a b oa ob =
-      if_are (EOp Add a b) (nat_lt (summand_key out b) (summand_key out a)) (whole_step (EOp Add a b) (EOp Add b a) (word_rule 46 (a ∷ b ∷ []) [])) []
-      (whole_step_are (EOp Add a b) (EOp Add b a) (word_rule 46 (a ∷ b ∷ []) []) (oa, ob, refl) (ob, oa, refl) (comm a b oa ob)) tt
+      if_are (EOp Add a b) (nat_lt (summand_key out b) (summand_key out a)) (whole_step (EOp Add a b) (EOp Add b a) (word_rule ADD_COMM (a ∷ b ∷ []) [])) []
+      (whole_step_are (EOp Add a b) (EOp Add b a) (word_rule ADD_COMM (a ∷ b ∷ []) []) (oa, ob, refl) (ob, oa, refl) (comm a b oa ob)) tt
 
   turned_are : (a b c : Exp) → OverExp sig a ctx → OverExp sig b ctx → OverExp sig c ctx → AreSteps (EOp Add a (EOp Add b c)) (turned a b c)
   turned_are a b c oa ob oc = (
@@ -123,7 +124,7 @@ module _ (sig : WordSignature) (e d : ℕ) (room : e + (d + d + d) + 16 ≤ 2 ^ 
       into = refl;
       from = (oa, (ob, oc, refl), refl);
       to = ((oa, ob, refl), oc, refl);
-      proof = swap_proves sig e d room some ctx wide (EOp Add (EOp Add a b) c) (EOp Add a (EOp Add b c)) ((oa, ob, refl), oc, refl) (oa, (ob, oc, refl), refl) (word_rule 47 (a ∷ b ∷ c ∷ []) []) (assoc a b c oa ob oc);
+      proof = swap_proves sig e d room some ctx wide (EOp Add (EOp Add a b) c) (EOp Add a (EOp Add b c)) ((oa, ob, refl), oc, refl) (oa, (ob, oc, refl), refl) (word_rule ADD_ASSOC (a ∷ b ∷ c ∷ []) []) (assoc a b c oa ob oc);
     },
     refl,
     (
@@ -135,46 +136,46 @@ module _ (sig : WordSignature) (e d : ℕ) (room : e + (d + d + d) + 16 ≤ 2 ^ 
 
   -- the operators that others define
   four_times : (a b : Exp) → has_later sig ≡ true → OverExp sig a ctx → OverExp sig b ctx →
-      Eqs (EOp S4add a b) (EOp Add (EOp Sll a (ELit 2)) b) (word_rule 98 (a ∷ b ∷ []) [])
+      Eqs (EOp S4add a b) (EOp Add (EOp Sll a (ELit 2)) b) (word_rule S4_DEF (a ∷ b ∷ []) [])
   unfolding the_rules
   four_times a b has oa ob =
-      rule_proves sig e d room 98 _ (later_rule sig has 98 refl) ctx wide (AExp a ∷ AExp b ∷ []) []
+      rule_proves sig e d room S4_DEF _ (later_rule sig has S4_DEF refl) ctx wide (AExp a ∷ AExp b ∷ []) []
       (oa, (ob, tt)) tt
 
   eight_times : (a b : Exp) → has_later sig ≡ true → OverExp sig a ctx → OverExp sig b ctx →
-      Eqs (EOp S8add a b) (EOp Add (EOp Sll a (ELit 3)) b) (word_rule 99 (a ∷ b ∷ []) [])
+      Eqs (EOp S8add a b) (EOp Add (EOp Sll a (ELit 3)) b) (word_rule S8_DEF (a ∷ b ∷ []) [])
   unfolding the_rules
   eight_times a b has oa ob =
-      rule_proves sig e d room 99 _ (later_rule sig has 99 refl) ctx wide (AExp a ∷ AExp b ∷ []) []
+      rule_proves sig e d room S8_DEF _ (later_rule sig has S8_DEF refl) ctx wide (AExp a ∷ AExp b ∷ []) []
       (oa, (ob, tt)) tt
 
   complement : (a b : Exp) → has_later sig ≡ true → OverExp sig a ctx → OverExp sig b ctx →
-      Eqs (EOp Bic a b) (EOp Band a (EOp Xor b (ELit max_word))) (word_rule 103 (a ∷ b ∷ []) [])
+      Eqs (EOp Bic a b) (EOp Band a (EOp Xor b (ELit max_word))) (word_rule BIC_DEF (a ∷ b ∷ []) [])
   unfolding the_rules
   complement a b has oa ob =
-      rule_proves sig e d room 103 _ (later_rule sig has 103 refl) ctx wide (AExp a ∷ AExp b ∷ []) []
+      rule_proves sig e d room BIC_DEF _ (later_rule sig has BIC_DEF refl) ctx wide (AExp a ∷ AExp b ∷ []) []
       (oa, (ob, tt)) tt
 
   itself : (a : Exp) → has_later sig ≡ true → OverExp sig a ctx →
-      Eqs (EOp Xor a a) (ELit 0) (word_rule 96 (a ∷ []) [])
+      Eqs (EOp Xor a a) (ELit 0) (word_rule XOR_SELF (a ∷ []) [])
   unfolding the_rules
   itself a has oa =
-      rule_proves sig e d room 96 _ (later_rule sig has 96 refl) ctx wide (AExp a ∷ []) [] (oa, tt) tt
+      rule_proves sig e d room XOR_SELF _ (later_rule sig has XOR_SELF refl) ctx wide (AExp a ∷ []) [] (oa, tt) tt
 
   -- an exclusive or of two expressions that are one
   cancelled : (a b : Exp) → has_later sig ≡ true → OverExp sig a ctx → same_exp a b ≡ true →
-      Eqs (EOp Xor a b) (ELit 0) (word_rule 96 (a ∷ []) [])
+      Eqs (EOp Xor a b) (ELit 0) (word_rule XOR_SELF (a ∷ []) [])
   cancelled a b has oa t =
       subst (λ z. Proves sig (e + d) ctx
-      (pf (rel_term Eq (op_term Xor (exp_encoding a) z) (lit 0))) (word_rule 96 (a ∷ []) []))
+      (pf (rel_term Eq (op_term Xor (exp_encoding a) z) (lit 0))) (word_rule XOR_SELF (a ∷ []) []))
       (tree_eq-true (exp_encoding a) (exp_encoding b) t) (itself a has oa)
 
   cancelled_are : (a b : Exp) (t : Bool) → same_exp a b ≡ t → has_later sig ≡ true →
       OverExp sig a ctx → OverExp sig b ctx → AreSteps (EOp Xor a b)
-      (cond t (whole_step (EOp Xor a b) (ELit 0) (word_rule 96 (a ∷ []) [])) [])
+      (cond t (whole_step (EOp Xor a b) (ELit 0) (word_rule XOR_SELF (a ∷ []) [])) [])
   cancelled_are a b true q has oa ob =
       let none : 0 < 2 ^ 64 = omega arith in
-      whole_step_are (EOp Xor a b) (ELit 0) (word_rule 96 (a ∷ []) []) (oa, ob, has) none
+      whole_step_are (EOp Xor a b) (ELit 0) (word_rule XOR_SELF (a ∷ []) []) (oa, ob, has) none
       (cancelled a b has oa q)
   cancelled_are a b false q has oa ob = tt
 
@@ -183,17 +184,17 @@ module _ (sig : WordSignature) (e d : ℕ) (room : e + (d + d + d) + 16 ≤ 2 ^ 
   defined_are S4add a b has oa ob =
       let two : 2 < 2 ^ 64 = omega arith in
       whole_step_are (EOp S4add a b) (EOp Add (EOp Sll a (ELit 2)) b)
-      (word_rule 98 (a ∷ b ∷ []) []) (oa, ob, has) ((oa, two, refl), ob, refl)
+      (word_rule S4_DEF (a ∷ b ∷ []) []) (oa, ob, has) ((oa, two, refl), ob, refl)
       (four_times a b has oa ob)
   defined_are S8add a b has oa ob =
       let three : 3 < 2 ^ 64 = omega arith in
       whole_step_are (EOp S8add a b) (EOp Add (EOp Sll a (ELit 3)) b)
-      (word_rule 99 (a ∷ b ∷ []) []) (oa, ob, has) ((oa, three, refl), ob, refl)
+      (word_rule S8_DEF (a ∷ b ∷ []) []) (oa, ob, has) ((oa, three, refl), ob, refl)
       (eight_times a b has oa ob)
   defined_are Bic a b has oa ob =
       let most : max_word < 2 ^ 64 = omega arith in
       whole_step_are (EOp Bic a b) (EOp Band a (EOp Xor b (ELit max_word)))
-      (word_rule 103 (a ∷ b ∷ []) []) (oa, ob, has) (oa, (ob, most, has), refl)
+      (word_rule BIC_DEF (a ∷ b ∷ []) []) (oa, ob, has) (oa, (ob, most, has), refl)
       (complement a b has oa ob)
   defined_are Xor a b has oa ob = cancelled_are a b (same_exp a b) refl has oa ob
   defined_are o a b has oa ob = tt
@@ -203,12 +204,12 @@ module _ (sig : WordSignature) (e d : ℕ) (room : e + (d + d + d) + 16 ≤ 2 ^ 
       whole_step_are (EOp o (ELit v) (ELit u)) (ELit (word_of o v u)) (calc o v u) (oa, ob, has) (word_of-below o v u oa ob) (calc_proves sig (e + d) ctx o has v u oa ob)
   rewrite_at_are out Sub a (ELit u) has oa ob =
       let none : 0 < 2 ^ 64 = omega arith in
-      whole_step_are (EOp Sub a (ELit u)) (EOp Add a (EOp Sub (ELit 0) (ELit u))) (word_rule 50 (a ∷ ELit u ∷ []) []) (oa, ob, refl) (oa, (none, ob, refl), refl) (negated a u oa ob)
-  rewrite_at_are out Add a (ELit zero) has oa ob = whole_step_are (EOp Add a (ELit 0)) a (word_rule 48 (a ∷ []) []) (oa, ob, refl) oa (add_none a oa)
-  rewrite_at_are out Bis a (ELit zero) has oa ob = whole_step_are (EOp Bis a (ELit 0)) a (word_rule 55 (a ∷ []) []) (oa, ob, refl) oa (bis_none a oa)
-  rewrite_at_are out Bis (ELit zero) a has oa ob = whole_step_are (EOp Bis (ELit 0) a) a (word_rule 56 (a ∷ []) []) (oa, ob, refl) ob (none_bis a ob)
+      whole_step_are (EOp Sub a (ELit u)) (EOp Add a (EOp Sub (ELit 0) (ELit u))) (word_rule SUB_NEG (a ∷ ELit u ∷ []) []) (oa, ob, refl) (oa, (none, ob, refl), refl) (negated a u oa ob)
+  rewrite_at_are out Add a (ELit zero) has oa ob = whole_step_are (EOp Add a (ELit 0)) a (word_rule ADD_ZERO (a ∷ []) []) (oa, ob, refl) oa (add_none a oa)
+  rewrite_at_are out Bis a (ELit zero) has oa ob = whole_step_are (EOp Bis a (ELit 0)) a (word_rule BIS_ZERO (a ∷ []) []) (oa, ob, refl) oa (bis_none a oa)
+  rewrite_at_are out Bis (ELit zero) a has oa ob = whole_step_are (EOp Bis (ELit 0) a) a (word_rule BIS_ZERO_L (a ∷ []) []) (oa, ob, refl) ob (none_bis a ob)
   rewrite_at_are out Add (EOp Add a b) c has oa ob =
-      whole_step_are (EOp Add (EOp Add a b) c) (EOp Add a (EOp Add b c)) (word_rule 47 (a ∷ b ∷ c ∷ []) []) (oa, ob, refl) (oa.0, (oa.1, ob, refl), refl) (assoc a b c oa.0 oa.1 ob)
+      whole_step_are (EOp Add (EOp Add a b) c) (EOp Add a (EOp Add b c)) (word_rule ADD_ASSOC (a ∷ b ∷ c ∷ []) []) (oa, ob, refl) (oa.0, (oa.1, ob, refl), refl) (assoc a b c oa.0 oa.1 ob)
   rewrite_at_are out Add a (EOp Add b c) has oa ob =
       if_are (EOp Add a (EOp Add b c)) (nat_lt (summand_key out b) (summand_key out a)) (turned a b c) (swapped out a (EOp Add b c)) (turned_are a b c oa ob.0 ob.1) (swapped_are out a (EOp Add b c) oa ob)
   rewrite_at_are out Add a b has oa ob = swapped_are out a b oa ob

@@ -18,11 +18,12 @@ use Rattle.prover_class.proofs.Goals.{by_aligned_says, by_bounds_says}
 use Rattle.prover_class.proofs.NormalForms.{by_normal_says}
 use Rattle.prover_class.proofs.Access.{all_sound}
 use Rattle.prover_class.specs.Access.{by_all_means}
-use Rattle.lf_signature.specs.declared.WordSignature.{WordSignature}
+use Rattle.lf_signature.specs.declared.editions.WordSignature.{WordSignature}
+use Rattle.lf_signature.specs.declared.numbers.TheConstants.{AND_I, SUB_LO, TT_I}
 
 module _ (sig : WordSignature) (e d : ℕ) (room : e + (d + d + d) + 16 ≤ 2 ^ 32) (some : 0 < d) (s : ℕ)
     (counted : Bool) where
-  pub words_sound : (counted ≡ true → 104 < size_of sig) → IsSound sig e d room some s (by_words_alone counted)
+  pub words_sound : (counted ≡ true → SUB_LO < size_of sig) → IsSound sig e d room some s (by_words_alone counted)
   words_sound rule k out ctx Γ A p w g o nk nd q =
       go (else_some (by_aligned Γ A) (first_of (by_normal out Γ A) (by_bounds counted Γ A)) p q)
     where
@@ -42,15 +43,15 @@ module _ (sig : WordSignature) (e d : ℕ) (room : e + (d + d + d) + 16 ≤ 2 ^ 
 
     pub proof_says : (l : List Form) (p : Tree) → Over sig (conjoined l) [] → nesting (conjoined l) + s ≤ e → nesting (conjoined l) ≤ d → condition_proof counted l ≡ Some p → Proves sig (e + d) [] (pf (form_encoding (conjoined l))) p
     unfolding the_rules
-    proof_says [] p o ne nd q = subst (λ z. Proves sig (e + d) [] (pf (form_encoding FTrue)) z) (some_injective q) (rule_proves sig e d room 27 _ refl [] (omega arith) [] [] tt tt)
+    proof_says [] p o ne nd q = subst (λ z. Proves sig (e + d) [] (pf (form_encoding FTrue)) z) (some_injective q) (rule_proves sig e d room TT_I _ refl [] (omega arith) [] [] tt tt)
     proof_says (A ∷ l) p o ne nd q =
         let a = bind_some (part_proof counted A) (λ p. option_map (and_i A (conjoined l) p) (condition_proof counted l)) p q in
         let b = map_some (condition_proof counted l) (and_i A (conjoined l) a.0) p a.2 in
         subst (λ z. Proves sig (e + d) [] (pf (form_encoding (conjoined (A ∷ l)))) z) b.2
-        (rule_proves sig e d room 29 _ refl [] (omega arith) (AForm A ∷ AForm (conjoined l) ∷ []) (a.0 ∷ b.0 ∷ []) ((o.0, omega (arith, nd)), ((o.1, omega (arith, nd)), tt))
+        (rule_proves sig e d room AND_I _ refl [] (omega arith) (AForm A ∷ AForm (conjoined l) ∷ []) (a.0 ∷ b.0 ∷ []) ((o.0, omega (arith, nd)), ((o.1, omega (arith, nd)), tt))
         (part_says A a.0 o.0 (omega (arith, ne)) (omega (arith, nd)) a.1, (proof_says l b.0 o.1 (omega (arith, ne)) (omega (arith, nd)) b.1, tt)))
 
-pub class_checks : (sig : WordSignature) (counted : Bool) → (counted ≡ true → 104 < size_of sig)
+pub class_checks : (sig : WordSignature) (counted : Bool) → (counted ≡ true → SUB_LO < size_of sig)
     → (l : List Form) (p : Tree) → Over sig (conjoined l) []
     → 5 * nesting (conjoined l) + 20 ≤ 2 ^ 32 → condition_proof counted l ≡ Some p
     → Checks (declared sig) [] p (pf (form_encoding (conjoined l)))

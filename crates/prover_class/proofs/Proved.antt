@@ -11,7 +11,7 @@ use Rattle.formula_tree.specs.Formulas.{Form}
 use Rattle.lf_terms.specs.Encoding.{form_encoding}
 use Rattle.prover_class.proofs.Scope.{Over, nesting}
 use Rattle.prover_class.specs.Hypotheses.{Hyps}
-use Rattle.lf_signature.specs.declared.WordSignature.{WordSignature}
+use Rattle.lf_signature.specs.declared.editions.WordSignature.{WordSignature}
 
 module _ (sig : WordSignature) where
   -- the term is of the type, and no variable of it passes the bound

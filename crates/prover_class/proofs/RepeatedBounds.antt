@@ -10,6 +10,7 @@ use Rattle.lf_terms.specs.ProofTerms.{word_rule, move, up}
 use Rattle.prover_class.specs.Hypotheses.{Hyps, same_exp}
 use Rattle.prover_class.specs.Bounds.{WordBound, word_bound, lesser, greater, least_bound, greatest_bound, max_word, folded, upper_of, uppers, op_bounds, own_bounds, upper_bound, lower_of, lowers, zero_bound, part_lowers, lower_bound}
 use Rattle.prover_class.proofs.Repeats.{IsUse, fold_use}
+use Rattle.lf_signature.specs.declared.numbers.TheConstants.{LT_PRED, MAX_LE, ULE_REFL, ULT_ULE}
 
 -- what is said from a proof: nothing, or one bound whose value is the same for all proofs
 pub record IsOne (g : Tree → List WordBound) (v : ℕ) : Type 0 where
@@ -26,14 +27,14 @@ if_single false v f = inl (λ h. refl)
 upper_single : (e : Exp) (A : Form) → IsSingle (upper_of e A)
 upper_single e (FRel Ule a (ELit w)) = if_single (same_exp a e) w (λ h. h)
 upper_single e (FRel Ult a (ELit (suc w))) =
-    if_single (same_exp a e) (word_of Sub (suc w) 1) (λ h. (folded e Sub (suc w) 1 (word_rule 68 (e ∷ ELit (suc w) ∷ []) (h ∷ []))).proof)
-upper_single e (FRel Eq a (ELit w)) = if_single (same_exp a e) w (λ h. move (FRel Ule (up e) (EVar 0)) e (ELit w) h (word_rule 63 (e ∷ []) []))
+    if_single (same_exp a e) (word_of Sub (suc w) 1) (λ h. (folded e Sub (suc w) 1 (word_rule LT_PRED (e ∷ ELit (suc w) ∷ []) (h ∷ []))).proof)
+upper_single e (FRel Eq a (ELit w)) = if_single (same_exp a e) w (λ h. move (FRel Ule (up e) (EVar 0)) e (ELit w) h (word_rule ULE_REFL (e ∷ []) []))
 upper_single e _ = inl (λ h. refl)
 
 lower_single : (e : Exp) (A : Form) → IsSingle (lower_of e A)
 lower_single e (FRel Ule (ELit w) a) = if_single (same_exp a e) w (λ h. h)
-lower_single e (FRel Ult (ELit w) a) = if_single (same_exp a e) w (λ h. word_rule 65 (ELit w ∷ e ∷ []) (h ∷ []))
-lower_single e (FRel Eq a (ELit w)) = if_single (same_exp a e) w (λ h. move (FRel Ule (EVar 0) (up e)) e (ELit w) h (word_rule 63 (e ∷ []) []))
+lower_single e (FRel Ult (ELit w) a) = if_single (same_exp a e) w (λ h. word_rule ULT_ULE (ELit w ∷ e ∷ []) (h ∷ []))
+lower_single e (FRel Eq a (ELit w)) = if_single (same_exp a e) w (λ h. move (FRel Ule (EVar 0) (up e)) e (ELit w) h (word_rule ULE_REFL (e ∷ []) []))
 lower_single e _ = inl (λ h. refl)
 
 -- The bound that no other beats, where what beats another is a strict order of values, and the first stands among equals.
@@ -128,13 +129,13 @@ lowers_use e last =
 
 -- where nothing is found
 abbrev most : Exp → WordBound
-most e = word_bound max_word (word_rule 62 (e ∷ []) [])
+most e = word_bound max_word (word_rule MAX_LE (e ∷ []) [])
 
 pub upper_use : (e : Exp) → IsUse (λ Γ. upper_bound Γ e)
 upper_use (EReg n) = uppers_use (EReg n) (most (EReg n))
 upper_use ELeft = uppers_use ELeft (most ELeft)
 upper_use (EVar n) = uppers_use (EVar n) (most (EVar n))
-upper_use (ELit w) = λ Γ l h q. ap (lesser (word_bound w (word_rule 63 (ELit w ∷ []) []))) (uppers_use (ELit w) (most (ELit w)) Γ l h q)
+upper_use (ELit w) = λ Γ l h q. ap (lesser (word_bound w (word_rule ULE_REFL (ELit w ∷ []) []))) (uppers_use (ELit w) (most (ELit w)) Γ l h q)
 upper_use (EOp o a b) = λ Γ l h q.
     let e : Exp = EOp o a b in
     let old : Hyps = Γ ++ l in

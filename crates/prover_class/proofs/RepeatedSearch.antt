@@ -13,6 +13,7 @@ use Rattle.prover_class.specs.Access.{Access, Load, Store, right_address, same_a
 use Rattle.prover_class.specs.Repeats.{Adding, with_repeats, by_shape_adding, goal_proof_adding, without_access_adding, by_all_means_adding, part_proof_adding}
 use Rattle.prover_class.proofs.Repeats.{IsUse, find_use, first_use, absurdity_use, raised_use, new_same, new_use}
 use Rattle.prover_class.proofs.RepeatedBounds.{upper_use, lower_use}
+use Rattle.lf_signature.specs.declared.numbers.TheConstants.{ADD_AL, ULT_ULE}
 
 -- a prover that takes the first hypothesis with a formula
 abbrev pub Takes : Prover → Type 0
@@ -22,7 +23,7 @@ Takes f = (out : ℕ) (A : Form) → IsUse (λ Γ. f out Γ A)
 alignment_use : (e : Exp) → IsUse (λ Γ. alignment_proof Γ e)
 alignment_use (EOp Add a b) = λ Γ l h q i.
     bind (first_of (find_use (aligned_form a) Γ l h q i) (alignment_use a Γ l h q i))
-    (λ p. option_map (λ r. word_rule 57 (a ∷ b ∷ []) (p ∷ r ∷ [])) (first_of (find_use (aligned_form b) Γ l h q i) (alignment_use b Γ l h q i)))
+    (λ p. option_map (λ r. word_rule ADD_AL (a ∷ b ∷ []) (p ∷ r ∷ [])) (first_of (find_use (aligned_form b) Γ l h q i) (alignment_use b Γ l h q i)))
 alignment_use (ELit w) = λ Γ l h q. refl
 alignment_use (EOp Sll a (ELit (suc (suc (suc zero))))) = λ Γ l h q. refl
 alignment_use (EOp Band a (ELit w)) = λ Γ l h q. refl
@@ -34,7 +35,7 @@ aligned_use _ = λ Γ l h q. refl
 
 bounds_use : (counted : Bool) (A : Form) → IsUse (λ Γ. by_bounds counted Γ A)
 bounds_use counted (FRel Ule a b) = λ Γ l h q i.
-    first_of (option_map (λ h. word_rule 65 (a ∷ b ∷ []) (h ∷ [])) (find_use (FRel Ult a b) Γ l h q i))
+    first_of (option_map (λ h. word_rule ULT_ULE (a ∷ b ∷ []) (h ∷ [])) (find_use (FRel Ult a b) Γ l h q i))
     (ule_by a b (upper_use a Γ l h q i) (lower_use counted b Γ l h q i))
 bounds_use counted (FRel Ult a b) = λ Γ l h q i.
     ult_by a b (upper_use a Γ l h q i) (lower_use counted b Γ l h q i)

@@ -16,7 +16,8 @@ use Rattle.prover_class.proofs.Proved.{Proves, IsHyp, AreHyps}
 use Rattle.prover_class.proofs.Uses.{rule_proves, stays_now, nesting-shift}
 use Rattle.prover_class.proofs.Named.{imp_i_proves, all_i_proves, allm_i_proves}
 use Rattle.prover_class.proofs.Hypotheses.{with_new_are, raised_are, find_proves, first_hyp, split_are}
-use Rattle.lf_signature.specs.declared.WordSignature.{WordSignature}
+use Rattle.lf_signature.specs.declared.editions.WordSignature.{WordSignature}
+use Rattle.lf_signature.specs.declared.numbers.TheConstants.{AND_I, FF_E, IMP_E, OR_L, OR_R, TT_I}
 
 pub else_some : (a b : Option Tree) (p : Tree) → first_of a b ≡ Some p → (a ≡ Some p) ⊎ (b ≡ Some p)
 else_some (Some q) b p e = inl e
@@ -38,7 +39,7 @@ module _ (sig : WordSignature) (e d : ℕ) (room : e + (d + d + d) + 16 ≤ 2 ^ 
         let m = map_some (find_hyp Γ F) (λ p. imp_e F FFalse h p) p q in
         let n : nesting F ≤ d = omega (arith, i.nesting) in
         subst (λ z. Proves sig (e + d) ctx (pf falsity) z) m.2
-        (rule_proves sig e d room 36 _ refl ctx (omega (arith, w)) (AForm F ∷ AForm FFalse ∷ []) (h ∷ m.0 ∷ []) ((i.over.0, n), ((tt, omega arith), tt))
+        (rule_proves sig e d room IMP_E _ refl ctx (omega (arith, w)) (AForm F ∷ AForm FFalse ∷ []) (h ∷ m.0 ∷ []) ((i.over.0, n), ((tt, omega arith), tt))
         (stays_now sig (e + d) k ctx (form_encoding (FImp F FFalse)) h i.stays, (find_proves sig (e + d) d k ctx Γ g F m.0 m.1, tt)))
     refute_says Γ g _ h p i q = cc
 
@@ -61,7 +62,7 @@ module _ (sig : WordSignature) (e d : ℕ) (room : e + (d + d + d) + 16 ≤ 2 ^ 
     unfolding the_rules
     from_absurd Γ g A p o n q =
         let m = map_some (absurdity Γ) (ff_e A) p q in
-        subst (λ z. Says ctx A z) m.2 (rule_proves sig e d room 28 _ refl ctx (omega (arith, w)) (AForm A ∷ []) (m.0 ∷ []) ((o, n), tt) (absurd_says Γ g m.0 m.1, tt))
+        subst (λ z. Says ctx A z) m.2 (rule_proves sig e d room FF_E _ refl ctx (omega (arith, w)) (AForm A ∷ []) (m.0 ∷ []) ((o, n), tt) (absurd_says Γ g m.0 m.1, tt))
 
   module _ (again leaf : Prover) (sa : IsSound again) (sl : IsSound leaf) where
     and_says : (k out : ℕ) (ctx : List Tree) (Γ : Hyps) (A B : Form) (p : Tree) → length ctx + k ≤ e → AreHyps sig (e + d) d k ctx Γ → Over sig (FAnd A B) ctx → nesting (FAnd A B) + s ≤ k → nesting (FAnd A B) ≤ d →
@@ -71,7 +72,7 @@ module _ (sig : WordSignature) (e d : ℕ) (room : e + (d + d + d) + 16 ≤ 2 ^ 
         let a = bind_some (again out Γ A) (λ p. option_map (and_i A B p) (again out Γ B)) p q in
         let b = map_some (again out Γ B) (and_i A B a.0) p a.2 in
         subst (λ z. Says ctx (FAnd A B) z) b.2
-        (rule_proves sig e d room 29 _ refl ctx (omega (arith, w)) (AForm A ∷ AForm B ∷ []) (a.0 ∷ b.0 ∷ []) ((o.0, omega (arith, m)), ((o.1, omega (arith, m)), tt))
+        (rule_proves sig e d room AND_I _ refl ctx (omega (arith, w)) (AForm A ∷ AForm B ∷ []) (a.0 ∷ b.0 ∷ []) ((o.0, omega (arith, m)), ((o.1, omega (arith, m)), tt))
         (sa k out ctx Γ A a.0 w g o.0 (omega (arith, n)) (omega (arith, m)) a.1, (sa k out ctx Γ B b.0 w g o.1 (omega (arith, n)) (omega (arith, m)) b.1, tt)))
 
     or_says : (k out : ℕ) (ctx : List Tree) (Γ : Hyps) (A B : Form) (p : Tree) → length ctx + k ≤ e → AreHyps sig (e + d) d k ctx Γ → Over sig (FOr A B) ctx → nesting (FOr A B) + s ≤ k → nesting (FOr A B) ≤ d →
@@ -83,12 +84,12 @@ module _ (sig : WordSignature) (e d : ℕ) (room : e + (d + d + d) + 16 ≤ 2 ^ 
         go (inl f) =
             let a = map_some (again out Γ A) (or_l A B) p f in
             subst (λ z. Says ctx (FOr A B) z) a.2
-            (rule_proves sig e d room 32 _ refl ctx (omega (arith, w)) (AForm A ∷ AForm B ∷ []) (a.0 ∷ []) ((o.0, omega (arith, m)), ((o.1, omega (arith, m)), tt))
+            (rule_proves sig e d room OR_L _ refl ctx (omega (arith, w)) (AForm A ∷ AForm B ∷ []) (a.0 ∷ []) ((o.0, omega (arith, m)), ((o.1, omega (arith, m)), tt))
             (sa k out ctx Γ A a.0 w g o.0 (omega (arith, n)) (omega (arith, m)) a.1, tt))
         go (inr f) =
             let a = map_some (again out Γ B) (or_r A B) p f in
             subst (λ z. Says ctx (FOr A B) z) a.2
-            (rule_proves sig e d room 33 _ refl ctx (omega (arith, w)) (AForm A ∷ AForm B ∷ []) (a.0 ∷ []) ((o.0, omega (arith, m)), ((o.1, omega (arith, m)), tt))
+            (rule_proves sig e d room OR_R _ refl ctx (omega (arith, w)) (AForm A ∷ AForm B ∷ []) (a.0 ∷ []) ((o.0, omega (arith, m)), ((o.1, omega (arith, m)), tt))
             (sa k out ctx Γ B a.0 w g o.1 (omega (arith, n)) (omega (arith, m)) a.1, tt))
 
     imp_says : (k out : ℕ) (ctx : List Tree) (Γ : Hyps) (A B : Form) (p : Tree) → length ctx + suc k ≤ e → AreHyps sig (e + d) d (suc k) ctx Γ → Over sig (FImp A B) ctx → nesting (FImp A B) + s ≤ suc k → nesting (FImp A B) ≤ d →
@@ -123,7 +124,7 @@ module _ (sig : WordSignature) (e d : ℕ) (room : e + (d + d + d) + 16 ≤ 2 ^ 
 
     true_says : (ctx : List Tree) → length ctx ≤ e → Says ctx FTrue tt_i
     unfolding the_rules
-    true_says ctx w = rule_proves sig e d room 27 _ refl ctx w [] [] tt tt
+    true_says ctx w = rule_proves sig e d room TT_I _ refl ctx w [] [] tt tt
 
     shape_sound : IsSound (by_shape again leaf)
     shape_sound k out ctx Γ FTrue p w g o n m q = subst (λ z. Says ctx FTrue z) (some_injective q) (true_says ctx (omega (arith, w)))

@@ -17,8 +17,8 @@ use Rattle.formula_tree.specs.Formulas.{Exp, EVar, ELit, EOp, ESel, MemExp, MVar
 use Rattle.lf_terms.specs.Encoding.{exp_encoding, mem_encoding, form_encoding}
 use Rattle.prover_class.proofs.Scope.{OverExp, OverMem, Over, nesting}
 use Rattle.prover_class.proofs.Signatures.{operator-declared}
-use Rattle.lf_signature.specs.declared.WordSignature.{WordSignature}
-use Rattle.lf_signature.specs.declared.WordSignature.TheVariants.{Sigma1}
+use Rattle.lf_signature.specs.declared.editions.WordSignature.{WordSignature}
+use Rattle.lf_signature.specs.declared.editions.WordSignature.TheVariants.{Sigma1}
 use Rattle.lf_signature.specs.declared.numbers.TheConstants.{FIRST_RULE}
 use Rattle.lf_signature.specs.Laws.Within.{declared_known}
 

@@ -4,7 +4,7 @@ use Rattle.term_table.specs.Tree.{Tree, Con, App, Lam, Num, shift, apps}
 use Rattle.lf_signature.specs.Terms.{exp, mem, pf, op_term, sel, upd, rel_term, and_term, or_term, imp_term}
 use Rattle.lf_signature.specs.Rules.{Sort, OfExp, OfMem, OfForm, OfExpForm, OfMemForm, SExp, SPar, SOwn, SLit, SOp, SSel, SMem, MPar, MOwn, SUpd, SForm, STrue, SFalse, FPar, FOf, FOfMem, SRel, SAnd, SOr, SImp, SAll, SAllm, Premise, Plain, Rule}
 use Rattle.lf_signature.specs.Constants.{declared, rule_at}
-use Rattle.lf_signature.specs.declared.WordSignature.{WordSignature}
+use Rattle.lf_signature.specs.declared.editions.WordSignature.{WordSignature}
 use Rattle.lf_signature.specs.Laws.Booleans.{both, cond_is}
 use Rattle.lf_signature.proofs.Lookup.{declared-rule}
 use Rattle.lf_terms.specs.Plain.{var_bound}

@@ -7,7 +7,7 @@ use Rattle.word_ops.specs.declared.Rel.TheVariants.{Eq, Ult, Ule}
 use Rattle.word_ops.specs.Words.{word_of}
 use Rattle.formula_tree.specs.Formulas.{Exp, EReg, ELeft, EVar, ELit, EOp, ESel, Form, FRel}
 use Rattle.lf_terms.specs.ProofTerms.{word_rule, move, swap, up, calc, fact}
-use Rattle.lf_terms.specs.declared.numbers.TheConstants.{ADD_LE, AND_COMM, AND_LE, BIC_LE, CMP_LE1, EXTB_LE, EXTL_LE, EXTW_LE, LT_PRED, MAX_LE, SLL_MONO, SRL_MONO, SUB_LO, ULE_REFL, ULE_TRANS, ULT_ULE, ZERO_LE}
+use Rattle.lf_signature.specs.declared.numbers.TheConstants.{ADD_LE, AND_COMM, AND_LE, BIC_LE, CMP_LE1, EXTB_LE, EXTL_LE, EXTW_LE, LT_PRED, MAX_LE, SLL_MONO, SRL_MONO, SUB_LO, ULE_REFL, ULE_TRANS, ULT_ULE, ZERO_LE}
 use Rattle.prover_class.specs.Hypotheses.{Hyps, same_exp}
 
 -- a word, and a proof that it is a bound
@@ -154,7 +154,7 @@ difference_bound a w v =
     (word_rule SUB_LO (a ∷ ELit v.value ∷ ELit w ∷ []) (v.proof ∷ fact Ule w v.value ∷ []))
 
 -- The lower bounds of an operator at a and b that the lower bound v of a gives: one of a difference if steps are
--- counted, since the rule for it is of Sigma3, and if the word subtracted is at most v.
+-- counted, since not every signature has the rule for it, and if the word subtracted is at most v.
 abbrev pub part_lowers : Bool → Op → Exp → Exp → WordBound → List WordBound
 part_lowers true Sub a (ELit w) v = if nat_le w v.value then difference_bound a w v ∷ [] else []
 part_lowers counted o a b v = []

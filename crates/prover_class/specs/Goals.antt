@@ -7,7 +7,7 @@ use Rattle.word_ops.specs.declared.Op.TheVariants.{Add, Band, Sll}
 use Rattle.word_ops.specs.declared.Rel.TheVariants.{Eq, Ult, Ule}
 use Rattle.formula_tree.specs.Formulas.{Exp, EVar, ELit, EOp, Form, FTrue, FFalse, FRel, FRd, FWr, FAnd, FOr, FImp, FAll, FAllm, shift_form}
 use Rattle.lf_terms.specs.ProofTerms.{tt_i, ff_e, and_i, or_l, or_r, imp_i, imp_e, all_i, allm_i, word_rule, eq_refl, move, up, calc, fact}
-use Rattle.lf_terms.specs.declared.numbers.TheConstants.{ADD_AL, AND_ASSOC, AND_ZERO, LE_LT, LT_LE, SLL_AL, ULE_TRANS, ULT_ULE}
+use Rattle.lf_signature.specs.declared.numbers.TheConstants.{ADD_AL, AND_ASSOC, AND_ZERO, LE_LT, LT_LE, SLL_AL, ULE_TRANS, ULT_ULE}
 use Rattle.prover_class.specs.Hypotheses.{Hyps, find_hyp, raised_hyps, split_hyps, with_new}
 use Rattle.prover_class.specs.Bounds.{WordBound, upper_bound, lower_bound}
 use Rattle.prover_class.specs.NormalForms.{normal_form, held_of_words, equal_forms}

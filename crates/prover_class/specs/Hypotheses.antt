@@ -9,7 +9,7 @@ use Rattle.word_ops.specs.declared.Rel.TheVariants.{Eq, Ult, Ule, Slt, Sle}
 use Rattle.formula_tree.specs.Formulas.{Exp, ELit, EOp, Form, FFalse, FRel, FAnd, FImp, shift_form}
 use Rattle.lf_terms.specs.Encoding.{form_encoding, exp_encoding}
 use Rattle.lf_terms.specs.ProofTerms.{and_l, and_r, word_rule}
-use Rattle.lf_terms.specs.declared.numbers.TheConstants.{CMP_NO, CMP_YES, NOT_LT}
+use Rattle.lf_signature.specs.declared.numbers.TheConstants.{CMP_NO, CMP_YES, NOT_LT}
 
 -- hypotheses, each with its proof
 abbrev pub Hyps : Type 0

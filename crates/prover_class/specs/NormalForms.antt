@@ -9,7 +9,7 @@ use Rattle.word_ops.specs.Words.{word_of, test_of}
 use Rattle.formula_tree.specs.Formulas.{Exp, EReg, ELeft, EVar, ELit, EOp, ESel, FRel}
 use Rattle.formula_tree.specs.Variables.{PExp, subst_var_exp}
 use Rattle.lf_terms.specs.ProofTerms.{word_rule, move, swap, up, eq_refl, calc, fact}
-use Rattle.lf_terms.specs.declared.numbers.TheConstants.{ADD_ASSOC, ADD_COMM, ADD_ZERO, BIC_DEF, BIS_ZERO, BIS_ZERO_L, S4_DEF, S8_DEF, SUB_NEG, XOR_SELF}
+use Rattle.lf_signature.specs.declared.numbers.TheConstants.{ADD_ASSOC, ADD_COMM, ADD_ZERO, BIC_DEF, BIS_ZERO, BIS_ZERO_L, S4_DEF, S8_DEF, SUB_NEG, XOR_SELF}
 use Rattle.prover_class.specs.Hypotheses.{same_exp}
 use Rattle.prover_class.specs.Bounds.{max_word}
 

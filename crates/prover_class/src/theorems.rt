@@ -12,20 +12,21 @@ ghost use Rattle.lf_terms.specs.Encoding.{form_encoding};
 ghost use Rattle.prover_class.specs.Parts.{conjoined, part_proof, condition_proof, first_not_easy};
 ghost use Rattle.prover_class.specs.Hypotheses.{with_new};
 ghost use Rattle.prover_class.specs.Repeats.{part_proof_adding, with_repeats};
-ghost use Rattle.lf_signature.specs.declared.WordSignature.{WordSignature};
+ghost use Rattle.lf_signature.specs.declared.editions.WordSignature.{WordSignature};
 ghost use Rattle.lf_signature.specs.Known.{HasOp};
+ghost use Rattle.lf_signature.specs.declared.numbers.TheConstants.{SUB_LO};
 ghost use Rattle.formula_tree.specs.Operators.{Uses};
 
 /// States that the prover's definitions are sound and decide what is easy. The term that they give
 /// for a closed condition is a proof of it by the typing derivations, if the condition's height is
 /// at most 2^29. It is one over each signature of word arithmetic that has the condition's
-/// operators and, if steps are counted, rule 104, `sub_lo`. So it is a proof over the third
+/// operators and, if steps are counted, the rule `sub_lo`. So it is a proof over the third
 /// signature; if no steps are counted, also over the second, which has all operators, and over the
 /// first if the operators are those of profile 1. The definitions give a term exactly if no part is
 /// the first that isn't easy, whatever number the parts begin with.
 pub fn class_laws()
     ensures sound { (s : WordSignature) (counted : Bool) (parts : List Form) (p : Tree)
-        → (counted ≡ true → 104 < size_of s) → IsOver 0 (conjoined parts) []
+        → (counted ≡ true → SUB_LO < size_of s) → IsOver 0 (conjoined parts) []
         → Uses (HasOp (declared s)) (conjoined parts)
         → form_height (conjoined parts) ≤ 2 ^ 29 → condition_proof counted parts ≡ Some p
         → Checks (declared s) [] p (pf (form_encoding (conjoined parts))) }

@@ -17,7 +17,7 @@ use Rattle.pcc_gate.specs.First.{formulas}
 use Rattle.prover_class.specs.Parts.{conjoined, condition_proof, first_not_easy}
 use Rattle.prover_conditions.specs.declared.parts.ConditionProof.{ConditionProof}
 use Rattle.prover_conditions.specs.declared.parts.ConditionProof.TheVariants.{Proved, NotEasy}
-use Rattle.lf_signature.specs.declared.WordSignature.{WordSignature}
+use Rattle.lf_signature.specs.declared.editions.WordSignature.{WordSignature}
 
 -- the parts of the verification condition: the entry's, then each invariant's
 unfoldable pub condition_parts : PolicyView → Option ℕ → List Insn → List (ℕ × Tree) → List Form

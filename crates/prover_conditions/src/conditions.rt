@@ -18,10 +18,12 @@ ghost use Rattle.prover_conditions.specs.Conditions.{condition_parts};
 ghost use Rattle.prover_conditions.specs.Conditions.{IsKnownAnswer, IsPartsAnswer, IsProofOfParts};
 ghost use Rattle.word_ops.specs.declared.Profile.TheVariants.{One};
 ghost use Rattle.word_ops.specs.Operators.{IsFirstOp};
-ghost use Rattle.lf_signature.specs.declared.WordSignature.{WordSignature};
-ghost use Rattle.lf_signature.specs.declared.WordSignature.TheVariants.{Sigma1, Sigma2, Sigma3};
+ghost use Rattle.lf_signature.specs.declared.editions.WordSignature.{WordSignature};
+ghost use Rattle.lf_signature.specs.declared.editions.WordSignature.TheVariants.{Sigma1, Sigma2};
+ghost use Rattle.lf_signature.specs.Constants.{Longest};
 ghost use Rattle.lf_signature.specs.Constants.{size_of, declared};
 ghost use Rattle.lf_signature.specs.Known.{HasOp};
+ghost use Rattle.lf_signature.specs.declared.numbers.TheConstants.{SUB_LO};
 ghost use Rattle.formula_tree.specs.Operators.{Uses};
 ghost use Rattle.policy_set.specs.Views.{PolicyUses};
 ghost use Rattle.hereditary_subst.specs.Limits.{NeedsLimit};
@@ -73,7 +75,7 @@ pub fn condition_in(
     bound: Option<u32>,
 ) -> Result<Id, Exhausted>
     requires invs { AreLowInvs table.old invs.now }
-    requires forms { AreForms Sigma3 bound (id_trees table.old invs.now) }
+    requires forms { AreForms Longest bound (id_trees table.old invs.now) }
     requires marks { AreFlags (map (λ p. p.0) invs.now) (length cut.now.code) cut.now.marks }
     requires short { unfolded_of cut.now.code cut.now.marks ≤ MAX_UNFOLDED }
     ensures id { let invs = id_trees table.old invs.now in
@@ -113,7 +115,7 @@ pub fn prove_condition(
     bound: Option<u32>,
 ) -> Result<ConditionProof, Exhausted>
     requires invs { AreLowInvs table.old invs.now }
-    requires forms { AreForms Sigma3 bound (id_trees table.old invs.now) }
+    requires forms { AreForms Longest bound (id_trees table.old invs.now) }
     requires marks { AreFlags (map (λ p. p.0) invs.now) (length cut.now.code) cut.now.marks }
     requires short { unfolded_of cut.now.code cut.now.marks ≤ MAX_UNFOLDED }
     ensures known { IfOk result (IsKnownAnswer table.new) }
@@ -122,7 +124,7 @@ pub fn prove_condition(
         IfOk result (IsPartsAnswer table.new (is_some bound) 0 parts) }
     ensures proves { let invs = id_trees table.old invs.now in
         let parts = condition_parts policy.now bound cut.now.code invs in (s : WordSignature)
-        → (is_some bound ≡ true → 104 < size_of s) → Uses (HasOp (declared s)) (conjoined parts)
+        → (is_some bound ≡ true → SUB_LO < size_of s) → Uses (HasOp (declared s)) (conjoined parts)
         → IfOk result (IsProofOfParts s table.new parts) }
     ensures first { let invs = id_trees table.old invs.now in
         let parts = condition_parts policy.now bound cut.now.code invs in
@@ -134,7 +136,7 @@ pub fn prove_condition(
         bound ≡ None → IfOk result (IsProofOfParts Sigma2 table.new parts) }
     ensures third { let invs = id_trees table.old invs.now in
         let parts = condition_parts policy.now bound cut.now.code invs in
-        IfOk result (IsProofOfParts Sigma3 table.new parts) }
+        IfOk result (IsProofOfParts Longest table.new parts) }
     ensures extends { Extends table.old table.new }
     ensures limit { NeedsLimit limited Results result }
 {

@@ -14,7 +14,7 @@ ghost use Rattle.hereditary_subst.specs.Limits.{SpendsResults};
 
 use crate::all_means::proof_by_all_means;
 use hereditary_subst::Exhausted;
-use lf_terms::numbers::{AND_I, TT_I};
+use lf_signature::numbers::{AND_I, TT_I};
 use lf_terms::rule_term;
 use prover_goals::{Context, Search};
 use prover_hyps::Hypotheses;

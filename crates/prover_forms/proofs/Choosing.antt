@@ -17,11 +17,12 @@ use Rattle.prover_forms.specs.declared.rules.Rule.{Rule}
 use Rattle.prover_forms.specs.declared.rules.Rule.TheVariants as L
 use Rattle.prover_forms.specs.Rules.{IsRule, IsKnownRule}
 use Rattle.prover_forms.specs.Inside.Summands.{IsOther, IsSummand, IsKnownSummand, rule_by_op, rule_at_word, rule_of_sum, rule_before}
+use Rattle.lf_signature.specs.declared.numbers.TheConstants.{ADD_COMM, XOR_SELF}
 
 swapped_rule : (t : TableView) (out : ℕ) (x y : Exp) (comes : Bool) → comes ≡ nat_lt (summand_key out y) (summand_key out x)
     → rewrite_at out Add x y ≡ swapped out x y → IsRule t out Add x y (cond comes L.Swapped L.Nothing)
-swapped_rule t out x y true e q = q ∙ ap (λ b. cond b (whole_step (EOp Add x y) (EOp Add y x) (word_rule 46 (x ∷ y ∷ []) [])) []) (sym e)
-swapped_rule t out x y false e q = q ∙ ap (λ b. cond b (whole_step (EOp Add x y) (EOp Add y x) (word_rule 46 (x ∷ y ∷ []) [])) []) (sym e)
+swapped_rule t out x y true e q = q ∙ ap (λ b. cond b (whole_step (EOp Add x y) (EOp Add y x) (word_rule ADD_COMM (x ∷ y ∷ []) [])) []) (sym e)
+swapped_rule t out x y false e q = q ∙ ap (λ b. cond b (whole_step (EOp Add x y) (EOp Add y x) (word_rule ADD_COMM (x ∷ y ∷ []) [])) []) (sym e)
 
 no_zero : (n : ℕ) → (suc n == 0) ≡ false
 no_zero n = go (suc n == 0) refl
@@ -51,9 +52,9 @@ same_is b x y s t qx qy h = go b h (same_exp x y) refl
 by_op_is : (t : TableView) (out : ℕ) (o : Op) (x y : Exp) (same : Bool) → same ≡ same_exp x y
     → rewrite_at out o x y ≡ rewrite_defined o x y → IsRule t out o x y (rule_by_op o same)
 by_op_is t out Xor x y true k q =
-    q ∙ ap (λ b. cond b (whole_step (EOp Xor x y) (ELit 0) (word_rule 96 (x ∷ []) [])) []) (sym k)
+    q ∙ ap (λ b. cond b (whole_step (EOp Xor x y) (ELit 0) (word_rule XOR_SELF (x ∷ []) [])) []) (sym k)
 by_op_is t out Xor x y false k q =
-    q ∙ ap (λ b. cond b (whole_step (EOp Xor x y) (ELit 0) (word_rule 96 (x ∷ []) [])) []) (sym k)
+    q ∙ ap (λ b. cond b (whole_step (EOp Xor x y) (ELit 0) (word_rule XOR_SELF (x ∷ []) [])) []) (sym k)
 by_op_is t out S4add x y same k q = q
 by_op_is t out S8add x y same k q = q
 by_op_is t out Bic x y same k q = q

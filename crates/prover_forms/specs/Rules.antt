@@ -7,7 +7,7 @@ use Rattle.word_ops.specs.Words.{word_of}
 use Rattle.formula_tree.specs.Formulas.{Exp, ELit, EOp}
 use Rattle.lf_terms.specs.Encoding.{exp_encoding}
 use Rattle.lf_terms.specs.ProofTerms.{word_rule, calc}
-use Rattle.lf_terms.specs.declared.numbers.TheConstants.{ADD_ASSOC, ADD_COMM, BIC_DEF, SUB_NEG, XOR_SELF}
+use Rattle.lf_signature.specs.declared.numbers.TheConstants.{ADD_ASSOC, ADD_COMM, BIC_DEF, SUB_NEG, XOR_SELF}
 use Rattle.prover_class.specs.Bounds.{max_word}
 use Rattle.prover_class.specs.NormalForms.{whole_step, turned, rewrite_at}
 use Rattle.prover_forms.specs.declared.rules.Rule.{Rule}

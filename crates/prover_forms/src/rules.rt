@@ -15,7 +15,7 @@ ghost use Rattle.prover_forms.specs.Inside.Summands.{
   rule_before,
 };
 
-use lf_terms::numbers::{ADD_ZERO, BIS_ZERO, BIS_ZERO_L, S4_DEF, S8_DEF};
+use lf_signature::numbers::{ADD_ZERO, BIS_ZERO, BIS_ZERO_L, S4_DEF, S8_DEF};
 use prover_ids::{ExpNode, exp_node};
 use term_table::{Id, Node, Table};
 use word_ops::Op;

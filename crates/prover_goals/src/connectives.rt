@@ -17,7 +17,7 @@ use crate::introductions::{both, generalized, implied, joined, truth};
 use crate::leaf::{Leaf, WordsAlone};
 use crate::search::{Context, Search, keep_answer};
 use hereditary_subst::Exhausted;
-use lf_terms::numbers::{ALL_I, ALLM_I, FF_E, OR_L, OR_R};
+use lf_signature::numbers::{ALL_I, ALLM_I, FF_E, OR_L, OR_R};
 use lf_terms::rule_term;
 use prover_hyps::find_hyp;
 use prover_ids::{FormNode, form_node, raised};

@@ -13,7 +13,7 @@ ghost use Rattle.prover_goals.specs.Inside.Connectives.{join_tree, over_tree};
 ghost use Rattle.hereditary_subst.specs.Limits.{NeverResults};
 
 use hereditary_subst::Exhausted;
-use lf_terms::numbers::{AND_I, IMP_I, TT_I};
+use lf_signature::numbers::{AND_I, IMP_I, TT_I};
 use lf_terms::rule_term;
 use term_table::{Id, Node, Table};
 

@@ -22,7 +22,7 @@ ghost use Rattle.hereditary_subst.specs.Limits.{SpendsResults, NeverResults};
 
 use crate::search::{Context, Search};
 use hereditary_subst::Exhausted;
-use lf_terms::numbers::{LE_LT, LT_LE, ULE_TRANS, ULT_ULE};
+use lf_signature::numbers::{LE_LT, LT_LE, ULE_TRANS, ULT_ULE};
 use lf_terms::rule_term;
 use prover_bounds::{Bound, BoundWords, bound_words, lower_bound, upper_bound};
 use prover_forms::{is_by_forms, plain_form};

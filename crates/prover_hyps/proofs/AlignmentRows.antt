@@ -18,6 +18,7 @@ use Rattle.prover_hyps.specs.Lasting.{alignment-lasts}
 use Rattle.prover_hyps.specs.declared.alignments.Aligned.{Aligned}
 use Rattle.prover_ids.specs.declared.kept.Kept.{Kept}
 use Rattle.prover_ids.proofs.KeptRows.{right-more}
+use Rattle.lf_signature.specs.declared.numbers.TheConstants.{ADD_AL}
 
 pub alignments-more : (kept : Kept Aligned (Option ℕ)) (t u : TableView) (l : List Hypothesis) → AreAlignments t l kept → AreKnownHyps t l → Extends t u → AreAlignments u l kept
 alignments-more kept t u l h k x = right-more (λ v. IsAlignment v l) t u (λ q o i. alignment-lasts t u l q.exp o k x i) h
@@ -48,13 +49,13 @@ part Γ x = first_of (find_hyp Γ (aligned_form x)) (alignment_proof Γ x)
 pub sum_none : (Γ : Hyps) (l r : Exp) → part Γ r ≡ None → alignment_proof Γ (EOp Add l r) ≡ None
 sum_none Γ l r h = go (part Γ l)
   where
-    go : (o : Option Tree) → bind o (λ p. option_map (λ q. word_rule 57 (l ∷ r ∷ []) (p ∷ q ∷ [])) (part Γ r)) ≡ None
+    go : (o : Option Tree) → bind o (λ p. option_map (λ q. word_rule ADD_AL (l ∷ r ∷ []) (p ∷ q ∷ [])) (part Γ r)) ≡ None
     go None = refl
-    go (Some p) = ap (option_map (λ q. word_rule 57 (l ∷ r ∷ []) (p ∷ q ∷ []))) h
+    go (Some p) = ap (option_map (λ q. word_rule ADD_AL (l ∷ r ∷ []) (p ∷ q ∷ []))) h
 
 -- a sum of which both are
-pub sum_some : (Γ : Hyps) (l r : Exp) (p q : Tree) → part Γ l ≡ Some p → part Γ r ≡ Some q → alignment_proof Γ (EOp Add l r) ≡ Some (word_rule 57 (l ∷ r ∷ []) (p ∷ q ∷ []))
-sum_some Γ l r p q hp hq = λ i. bind (hp i) (λ p. option_map (λ q. word_rule 57 (l ∷ r ∷ []) (p ∷ q ∷ [])) (hq i))
+pub sum_some : (Γ : Hyps) (l r : Exp) (p q : Tree) → part Γ l ≡ Some p → part Γ r ≡ Some q → alignment_proof Γ (EOp Add l r) ≡ Some (word_rule ADD_AL (l ∷ r ∷ []) (p ∷ q ∷ []))
+sum_some Γ l r p q hp hq = λ i. bind (hp i) (λ p. option_map (λ q. word_rule ADD_AL (l ∷ r ∷ []) (p ∷ q ∷ [])) (hq i))
 
 -- an operator of which no alignment is known
 pub no_alignment : (Γ : Hyps) (o : Op) (l r : Exp) → (o ≡ Sll → ⊥) → (o ≡ Band → ⊥) → (o ≡ Add → ⊥) → alignment_proof Γ (EOp o l r) ≡ None

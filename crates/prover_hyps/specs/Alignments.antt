@@ -11,7 +11,7 @@ use Rattle.prover_ids.specs.declared.kept.Kept.{Kept}
 use Rattle.prover_ids.specs.Hypotheses.{AreHyps}
 use Rattle.prover_ids.specs.declared.hypotheses.Hypothesis.{Hypothesis}
 use Rattle.lf_terms.specs.ProofTerms.{word_rule, eq_refl, move, up, calc}
-use Rattle.lf_terms.specs.declared.numbers.TheConstants.{AND_ASSOC, AND_ZERO}
+use Rattle.lf_signature.specs.declared.numbers.TheConstants.{AND_ASSOC, AND_ZERO}
 use Rattle.prover_class.specs.Hypotheses.{Hyps, find_hyp}
 use Rattle.prover_class.specs.Goals.{first_of, aligned_form, alignment_proof}
 use Rattle.prover_hyps.specs.declared.alignments.Aligned.{Aligned}

@@ -20,7 +20,7 @@ ghost use Rattle.prover_hyps.specs.Alignments.{masked_first, masked_second, mask
 use crate::collection::Hypotheses;
 use crate::finding::find_hyp;
 use hereditary_subst::{Exhausted, Memo};
-use lf_terms::numbers::{ADD_AL, AND_ASSOC, AND_ZERO, SLL_AL};
+use lf_signature::numbers::{ADD_AL, AND_ASSOC, AND_ZERO, SLL_AL};
 use lf_terms::rule_term;
 use prover_ids::{
     ExpNode, Kept, Question, calc, exp_node, literal, moved, number, oper, raised, reflexive,

@@ -17,8 +17,7 @@ ghost use Rattle.prover_class.specs.Hypotheses.{other_hyps, reversed_hyps, test_
 use crate::collection::Hypotheses;
 use crate::finding::add;
 use lf_signature::app2;
-use lf_signature::numbers::{FF, IMP, rel_constant};
-use lf_terms::numbers::{CMP_NO, CMP_YES, NOT_LT};
+use lf_signature::numbers::{CMP_NO, CMP_YES, FF, IMP, NOT_LT, rel_constant};
 use lf_terms::rule_term;
 use prover_ids::{ExpNode, exp_node};
 use std::alloc::AllocError;

@@ -13,8 +13,7 @@ ghost use Rattle.prover_hyps.specs.Inside.Refutations.{IsKnownRefutation, Stands
 
 use crate::collection::Hypotheses;
 use crate::finding::find_hyp;
-use lf_signature::numbers::FF;
-use lf_terms::numbers::IMP_E;
+use lf_signature::numbers::{FF, IMP_E};
 use lf_terms::rule_term;
 use prover_ids::{FormNode, form_node};
 use std::alloc::AllocError;

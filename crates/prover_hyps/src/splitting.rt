@@ -13,7 +13,7 @@ ghost use Rattle.prover_hyps.specs.Inside.Splits.{AreSeen, AreSplit, IsNegated};
 use crate::collection::{Hypotheses, Key, key_of};
 use crate::comparing::add_comparison;
 use crate::finding::add;
-use lf_terms::numbers::{AND_L, AND_R};
+use lf_signature::numbers::{AND_L, AND_R};
 use lf_terms::rule_term;
 use prover_ids::{FormNode, form_node};
 use std::alloc::AllocError;

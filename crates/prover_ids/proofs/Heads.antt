@@ -8,6 +8,7 @@ use Rattle.word_ops.specs.Operators.{op_of_constant, op_constant}
 use Rattle.lf_signature.specs.Numbers.{rel_of_constant, rel_constant}
 use Rattle.word_ops.proofs.EachOp.{op_of_constant-op_constant}
 use Rattle.lf_signature.specs.Laws.Numbered.{rel_of_constant-rel_constant}
+use Rattle.lf_signature.specs.declared.numbers.TheConstants.{SEL}
 use Rattle.formula_tree.specs.Formulas.{Exp, EReg, ELeft, EVar, ELit, EOp, ESel, MemExp, MMem, MVar, MUpd, Form, FTrue, FFalse, FRel, FRd, FWr, FAnd, FOr, FImp, FAll, FAllm}
 use Rattle.lf_terms.specs.Encoding.{exp_encoding, mem_encoding, form_encoding}
 use Rattle.term_table.specs.Measures.{height_of}
@@ -48,7 +49,7 @@ applied_is t (ESel m x) c a b q =
     let n : op_of_constant c ≡ None = ap op_of_constant (constant c _ _ _ _ q) in
     subst (λ z. IsExpNode t (ESel m x) (word_node z a b)) (sym n) (record { memory = m; address = x; is = refl; memory_is = cc; address_is = cc })
   where
-    constant : (c : ℕ) (f g h k : Tree) → App (App (Con (Num c)) f) g ≡ App (App (Con (Num 11)) h) k → c ≡ 11
+    constant : (c : ℕ) (f g h k : Tree) → App (App (Con (Num c)) f) g ≡ App (App (Con (Num SEL)) h) k → c ≡ 11
     constant c f g h k q = cc
 
 -- what is neither a variable nor a word, nor a numbered constant at two terms, stands for what isn't bound

@@ -5,6 +5,7 @@ use Rattle.term_table.specs.Table.{TableView, IsKnown, tree_at, Extends}
 use Rattle.hereditary_subst.proofs.Rows.{grows_more, known-more}
 use Rattle.lf_signature.specs.Nodes.{IsIdOf}
 use Rattle.lf_signature.specs.Terms.{op_term}
+use Rattle.lf_signature.specs.declared.numbers.TheConstants.{ADD_ASSOC}
 use Rattle.lf_terms.specs.Instance.{trees_of}
 use Rattle.word_ops.specs.declared.Op.{Op}
 use Rattle.word_ops.specs.declared.Op.TheVariants.{Add}
@@ -111,7 +112,7 @@ three_mapped_is t u v p w steps a b c x y z f all is m k kx ky tu uv vp pw ga gb
 
 -- t, u, v, p, q, w: before, with the sum, with that of it with c, with the rule's proof, with that turned round, with the rewriting
 pub ungrouped_is : (t u v p q w : TableView) (e a b c sum grouped equal proof : ℕ) {E : Type 0} (result : Result Rewrite E) → IsKnown t e → IsKnown t a → IsKnown t b → IsKnown t c → Extends t u → Extends u v → Extends v p → Extends p q →
-    IsIdOf u (op_term Add (tree_at t a) (tree_at t b)) sum → IsIdOf v (op_term Add (tree_at u sum) (tree_at u c)) grouped → IsIdOf p (apps (Con (Num 47)) (trees_of v (a ∷ b ∷ c ∷ []))) equal →
+    IsIdOf u (op_term Add (tree_at t a) (tree_at t b)) sum → IsIdOf v (op_term Add (tree_at u sum) (tree_at u c)) grouped → IsIdOf p (apps (Con (Num ADD_ASSOC)) (trees_of v (a ∷ b ∷ c ∷ []))) equal →
     ((x y : Exp) → tree_at p grouped ≡ exp_encoding x → tree_at p e ≡ exp_encoding y → IsIdOf q (swap x y (tree_at p equal)) proof) →
     ((f g : Exp) → tree_at q e ≡ exp_encoding f → tree_at q grouped ≡ exp_encoding g → IfOk result (λ s. IsRewrite w s (whole_of f g (tree_at q proof)))) →
     (x y z : Exp) → tree_at t e ≡ exp_encoding (EOp Add x (EOp Add y z)) → tree_at t a ≡ exp_encoding x → tree_at t b ≡ exp_encoding y → tree_at t c ≡ exp_encoding z → IfOk result (λ s. IsRewrite w s (ungrouped_of x y z))
@@ -123,11 +124,11 @@ ungrouped_is t u v p q w e a b c sum grouped equal proof result ke ka kb kc tu u
     let new = EOp Add (EOp Add x y) z in
     let the_sum : tree_at u sum ≡ exp_encoding (EOp Add x y) = at_sum.is ∙ (λ i. op_term Add (qa i) (qb i)) in
     let the_grouped : tree_at v grouped ≡ exp_encoding new = at_grouped.is ∙ (λ i. op_term Add (the_sum i) ((tu.same c kc ∙ qc) i)) in
-    let the_equal : tree_at p equal ≡ word_rule 47 (x ∷ y ∷ z ∷ []) [] =
-    at_equal.is ∙ (λ i. apps (Con (Num 47)) ((tv.same a ka ∙ qa) i ∷ (tv.same b kb ∙ qb) i ∷ (tv.same c kc ∙ qc) i ∷ [])) in
+    let the_equal : tree_at p equal ≡ word_rule ADD_ASSOC (x ∷ y ∷ z ∷ []) [] =
+    at_equal.is ∙ (λ i. apps (Con (Num ADD_ASSOC)) ((tv.same a ka ∙ qa) i ∷ (tv.same b kb ∙ qb) i ∷ (tv.same c kc ∙ qc) i ∷ [])) in
     let in_p : tree_at p grouped ≡ exp_encoding new = vp.same grouped at_grouped.known ∙ the_grouped in
     let known : IsKnown p grouped = omega (arith, at_grouped.known, vp.longer) in
-    let the_proof : tree_at q proof ≡ swap new old (word_rule 47 (x ∷ y ∷ z ∷ []) []) = (at_proof new old in_p (tp.same e ke ∙ qe)).is ∙ ap (swap new old) the_equal in
+    let the_proof : tree_at q proof ≡ swap new old (word_rule ADD_ASSOC (x ∷ y ∷ z ∷ []) []) = (at_proof new old in_p (tp.same e ke ∙ qe)).is ∙ ap (swap new old) the_equal in
     subst (λ r. IfOk result (λ s. IsRewrite w s (whole_of old new r))) the_proof (at_whole old new (tq.same e ke ∙ qe) (pq.same grouped known ∙ in_p))
 
 -- t, u, v, p, q, r, w: before, with the first, with c raised, with the sum, with the sum turned round, with that beside c, with the third

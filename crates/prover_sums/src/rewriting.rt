@@ -33,7 +33,7 @@ ghost use Rattle.prover_sums.specs.Inside.Rewrites.{
 };
 
 use hereditary_subst::{Exhausted, Memo};
-use lf_terms::numbers::{ADD_ASSOC, ADD_COMM, BIC_DEF, SUB_NEG, XOR_SELF};
+use lf_signature::numbers::{ADD_ASSOC, ADD_COMM, BIC_DEF, SUB_NEG, XOR_SELF};
 use lf_terms::rule_term;
 use prover_forms::{
     Rule, cleared_bits, negated_sum, regrouped_sum, rule_at, scaled_sum, swapped_sum, value_of,

@@ -5,8 +5,8 @@ ghost use Rattle.alpha_cfg.specs.Machine as machine;
 ghost use Rattle.word_ops.specs.Registers as registers;
 ghost use Rattle.word_ops.specs.Rights as rights;
 
-use alpha_words::{Cond, Reg, Rhs};
-use word_ops::{Rel, holds};
+use alpha_words::{Cond, Reg, Rhs, Tested, cond_relation, cond_taken, cond_tested};
+use word_ops::holds;
 
 /// Returns a register's word from `regs`, or 0 for register 31.
 #[inline(always)]
@@ -67,15 +67,15 @@ pub fn aligned(addr: u64) -> u64
 pub fn takes(cond: Cond, word: u64) -> bool
     ensures { result ≡ machine.takes cond word }
 {
-    match cond {
-        Cond::LowClear => word & 1 == 0,
-        Cond::Zero => word == 0,
-        Cond::Negative => holds(Rel::Slt, word, 0),
-        Cond::NotPositive => holds(Rel::Sle, word, 0),
-        Cond::LowSet => word & 1 != 0,
-        Cond::NotZero => word != 0,
-        Cond::NotNegative => !holds(Rel::Slt, word, 0),
-        Cond::Positive => !holds(Rel::Sle, word, 0),
+    let tested = match cond_tested(cond) {
+        Tested::Word => word,
+        Tested::LowBit => word & 1,
+    };
+    let compares = holds(cond_relation(cond), tested, 0);
+    if cond_taken(cond) {
+        compares
+    } else {
+        !compares
     }
 }
 

@@ -1,18 +1,14 @@
 -- What loading and running a packet come to.
-use Rattle.std.proofs.Common.{◌≡◌, ℕ, ◌%◌, ◌^◌, true, false, List, length, Option, Some, None, refl, sym, ◌∙◌, ap, inl, inr}
-use Rattle.std.proofs.lemmas.Bool.{cases_lt, lt-ltb, le-ltb}
-use Rattle.std.proofs.lemmas.Option.{none-some}
+use Rattle.std.proofs.Common.{◌≡◌, ℕ, ◌%◌, ◌^◌, true, false, List, Option, Some, None, refl, sym, ◌∙◌, ap}
 use Rattle.word_ops.specs.Memory.{Memory}
 use Rattle.alpha_cfg.specs.Machine.{State, run_of}
-use Rattle.policy_set.specs.declared.kind.PolicyKind.{PolicyKind}
-use Rattle.policy_set.specs.declared.kind.PolicyKind.TheVariants.{Filter, Tag, Table}
 use Rattle.reference_machine.specs.Arena.{map_of, sum_of}
 use Rattle.reference_machine.specs.Starts.{StartView, start_state}
 use Rattle.packet_store.specs.declared.results.PacketResult.TheVariants.{Short, Ran}
-use Rattle.packet_store.specs.PolicyStarts.{start_from, start_of, filter_start, tag_start, table_start}
+use Rattle.packet_store.specs.PolicyStarts.{start_of}
 use Rattle.packet_store.specs.Results.{result_from, packet_result}
 use Rattle.packet_store.proofs.ResultLemmas.{result_from-some}
-use Rattle.packet_store.proofs.StartLemmas.{the_same}
+use Rattle.packet_store.proofs.StartLemmas.{start_from-sum}
 use Rattle.host_steps.specs.declared.ended.Ended.{Ended}
 use Rattle.vcgen.specs.Safety.{all_steps}
 use Rattle.safe_host.specs.Hosts.{HostView, state_under, RightsFit, host_at, start_rights}
@@ -41,26 +37,6 @@ pub loaded : (old new : HostView) (o : Option StartView) → Loads old o new tru
 loaded old new None l = absurd (cc)
 loaded old new (Some setup) (e, is, meets, fits) = record { setup = setup; is = refl; new_is = is; fits = fits }
 
--- where the region isn't empty it is at the arena's front
-sum-at : (kind : Option PolicyKind) (packet : List ℕ) (setup : StartView) (m : Memory)
-    → start_from 65536 kind packet ≡ Some setup → sum_of m 65536 setup.region
-    ≡ sum_of m setup.at setup.region
-unfolding start_from
-sum-at None packet setup m e = absurd (none-some setup e)
-sum-at (Some Filter) packet setup m e = elim (cases_lt (length packet) 64) [
-  | inl less ↦ let none : None ≡ Some setup = rw (lt-ltb (length packet) 64 less) at e in absurd (cc)
-  | inr enough ↦
-      the_same (λ s. sum_of m 65536 s.region ≡ sum_of m s.at s.region) (filter_start 65536 packet) setup refl (rw (le-ltb (length packet) 64 enough) at e)
-]
-sum-at (Some Tag) packet setup m e = elim (cases_lt (length packet) 16) [
-  | inl less ↦ let none : None ≡ Some setup = rw (lt-ltb (length packet) 16 less) at e in absurd (cc)
-  | inr enough ↦
-      the_same (λ s. sum_of m 65536 s.region ≡ sum_of m s.at s.region) (tag_start 65536 packet) setup refl (rw (le-ltb (length packet) 16 enough) at e)
-]
-sum-at (Some Table) packet setup m e =
-    the_same (λ s. sum_of m 65536 s.region ≡ sum_of m s.at s.region) (table_start 65536 packet)
-    setup refl e
-
 -- a run from a start that was loaded, and the sum behind it
 pub ran-result : (old begun after : HostView) (n sum : ℕ) (result : Ended) (packet : List ℕ)
     → Loads old (start_of old.accepted.policy packet) begun true → IsRun begun n result after
@@ -82,7 +58,7 @@ ran-result old begun after n sum result packet loads run region is =
     let size : after.region ≡ setup.region = region ∙ ap (λ (h : HostView). h.region) l.new_is in
     let total : sum ≡ sum_of m setup.at setup.region % 2 ^ 64 =
     is ∙ ap (λ k. sum_of m 65536 k % 2 ^ 64) size
-    ∙ ap (λ k. k % 2 ^ 64) (sum-at old.accepted.policy.kind packet setup m (sym l.is)) in
+    ∙ ap (λ k. k % 2 ^ 64) (start_from-sum 65536 old.accepted.policy.kind packet setup m (sym l.is)) in
     ap (Ran (outcome_of result)) total
     ∙ result_from-some old.accepted.code n setup (outcome_of result) end from
     ∙ ap (result_from old.accepted.code n) l.is

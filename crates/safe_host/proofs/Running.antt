@@ -11,7 +11,7 @@ use Rattle.reference_machine.proofs.Starting.{start_state-is}
 use Rattle.packet_store.specs.StartMeets.{StartMeets}
 use Rattle.vcgen.specs.Conditions.{condition}
 use Rattle.term_table.specs.Table.{id_trees}
-use Rattle.lf_signature.specs.declared.WordSignature.TheVariants.{Sigma3}
+use Rattle.lf_signature.specs.Constants.{Longest}
 use Rattle.vcgen.specs.Encoded.{AreForms, AreEncodings}
 use Rattle.vcgen.specs.Safety.{IsAnnotated, Holds, all_steps, steps_after}
 use Rattle.pcc_gate.specs.Views.{AcceptedView, AreAnnotations, IsConditionTrue}
@@ -40,10 +40,10 @@ pub record HasBegun (a : AcceptedView) (setup : StartView) (h : HostView) : Type
   pub meets : StartMeets setup a.policy.pre
   pub fits : RightsFit h (all_steps a.bound) (start_rights setup)
 
-module _ (a : AcceptedView) (forms : AreForms Sigma3 a.bound (id_trees a.table a.invs))
+module _ (a : AcceptedView) (forms : AreForms Longest a.bound (id_trees a.table a.invs))
     (annotates : AreAnnotations a) (valid : IsConditionTrue a) where
   encoded : AreEncodings a.bound (id_trees a.table a.invs) (shown_formulas a)
-  encoded = formulas-encoded Sigma3 a.bound (id_trees a.table a.invs) forms
+  encoded = formulas-encoded Longest a.bound (id_trees a.table a.invs) forms
 
   is-annotated : IsAnnotated (shown_code a)
   is-annotated = annotates (shown_formulas a) encoded
@@ -82,7 +82,7 @@ module _ (a : AcceptedView) (forms : AreForms Sigma3 a.bound (id_trees a.table a
 
 -- a host's accepted code has these laws
 module _ (h : HostView)
-    (forms : AreForms Sigma3 h.accepted.bound (id_trees h.accepted.table h.accepted.invs))
+    (forms : AreForms Longest h.accepted.bound (id_trees h.accepted.table h.accepted.invs))
     (annotates : AreAnnotations h.accepted) (valid : IsConditionTrue h.accepted) where
   host-annotated : IsAnnotated (shown_code h.accepted)
   host-annotated = is-annotated h.accepted forms annotates valid

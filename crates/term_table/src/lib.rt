@@ -12,7 +12,7 @@
 mod theorems;
 
 ghost use Rattle.std.specs.Prelude.{◌≡◌, ℕ, List, Option, ◌<◌, ◌≤◌, ◌+◌, ◌^◌, ◌↔◌, length, [], get_or, max, ◌-◌, if◌then◌else◌, nat_lt, ◌&&◌, not, IfOk, OnErr, IsTrue};
-ghost use Rattle.term_table.specs.Measures.{sigma1_places, sigma2_places, sigma3_places, height_of, weight_of, capped};
+ghost use Rattle.term_table.specs.Measures.{height_of, weight_of, capped};
 ghost use Rattle.term_table.specs.Table.{counts_of, IsKnown, tree_at, node_tree, node_tree_in, PartsBelow, PartsKnown, AreDifferent, AreSmall, Adds, Extends};
 ghost use Rattle.term_table.specs.Inside.Entries.{entry_trees, IsSmallNode, IsMeasured, AreMeasured};
 ghost use Rattle.term_table.specs.Inside.Keys.{key_of};
@@ -84,47 +84,12 @@ pub struct Places {
     counts: &'static [u8],
 }
 
-/// Constants 0 to 26 and 88 to 95 build formulas and have no parameters; the others are the rules.
-static PARAMETERS: [u8; 105] = [
-    0, 0, 0, 0, 0, 0, 0, 0, 0, 0, 0, 0, 0, 0, 0, 0, 0, 0, 0, 0, 0, 0, 0, 0, 0, 0, 0, 0, 1, 2, 2, 2,
-    2, 2, 3, 2, 2, 1, 1, 2, 1, 2, 1, 3, 3, 4, 2, 3, 1, 2, 2, 2, 3, 1, 2, 1, 1, 2, 1, 3, 3, 1, 1, 1,
-    3, 2, 3, 3, 2, 2, 2, 1, 4, 2, 2, 2, 2, 2, 2, 2, 2, 2, 2, 2, 2, 2, 2, 2, 0, 0, 0, 0, 0, 0, 0, 0,
-    1, 2, 2, 2, 2, 2, 2, 2, 3,
-];
-
 impl Places {
     /// Returns the places with these counts, one for each constant by number.
     pub fn of(counts: &'static [u8]) -> Places
         ensures { counts_of result ≡ counts.now }
     {
         Places { counts }
-    }
-
-    /// Returns the counts of Sigma1, the first signature of word arithmetic: constants 0 to 87.
-    pub fn sigma1() -> Places
-        ensures { counts_of result ≡ sigma1_places }
-    {
-        Places {
-            counts: &PARAMETERS[..88],
-        }
-    }
-
-    /// Returns the counts of Sigma2, the second signature: constants 0 to 103.
-    pub fn sigma2() -> Places
-        ensures { counts_of result ≡ sigma2_places }
-    {
-        Places {
-            counts: &PARAMETERS[..104],
-        }
-    }
-
-    /// Returns the counts of Sigma3, the third signature: constants 0 to 104.
-    pub fn sigma3() -> Places
-        ensures { counts_of result ≡ sigma3_places }
-    {
-        Places {
-            counts: &PARAMETERS,
-        }
     }
 
     /// How many parameters the constant has.

@@ -15,10 +15,11 @@ use crate::faults::{Read, RowFault};
 use crate::names::Names;
 use crate::printing::tree_text;
 use crate::term_text::{read_tree, small_number};
+use lf_signature::WordSignature;
 use std::alloc::{AllocError, Global};
 use std::rt::Files;
 use std::{fs, io};
-use term_table::{Id, Node, Places, Table};
+use term_table::{Id, Node, Table};
 
 /// The answer to a question.
 #[derive(Clone, Copy)]
@@ -340,7 +341,7 @@ fn go_through<R: AllocGlobal + Print, Q: Questions>(
     text: &[u8],
     counts: &mut Counts,
 ) -> io::Result<()> {
-    let mut table = Table::new(rt.alloc(), Places::sigma1());
+    let mut table = Table::new(rt.alloc(), WordSignature::Sigma1.places());
     let mut names = Names::new(rt.alloc());
     let mut rest = text;
     for _ in 0..u64::MAX {

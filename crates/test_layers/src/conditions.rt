@@ -14,10 +14,11 @@ use hereditary_subst::Memo;
 use lf_encode::{
     adequacy_laws, put_laws, scope_laws, substitution_in_contexts, substitution_on_encodings,
 };
+use lf_signature::WordSignature;
 use policy_set::{Policy, PolicyKind};
 use std::alloc::Global;
 use std::test::Fail;
-use term_table::{Id, Node, Places, Table};
+use term_table::{Id, Node, Table};
 use vcgen::{VcFault, condition_laws, encoding_laws, left_laws, vc, worked_conditions};
 use word_ops::Profile;
 
@@ -86,7 +87,7 @@ fn is_answered_in(table: &mut Table, cut: &Cut, policy: &Policy) -> Result<bool,
 fn is_answered(alloc: Global, cut: &Cut, policy: &Policy) -> Result<bool, VcFault>
     requires { AreFlags [] (length cut.now.code) cut.now.marks }
 {
-    let mut table = Table::new(alloc, Places::sigma1());
+    let mut table = Table::new(alloc, WordSignature::Sigma1.places());
     is_answered_in(&mut table, cut, policy)
 }
 

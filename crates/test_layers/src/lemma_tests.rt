@@ -13,15 +13,15 @@ use crate::nodes::known;
 use crate::rules::{Rule, Step, Under, are_proved, lemmas_known};
 use alpha_cfg::{Code, Cut};
 use lf_lemmas::WithLemmas;
-use lf_signature::Sigma3;
 use lf_signature::numbers::TT;
+use lf_signature::{LONGEST, Sigma3};
 use lf_truth::{ProvedLemmas, prove_true};
 use pcc_gate::gate;
 use policy_set::{Policy, PolicyKind};
 use proof_container::walk_from;
 use std::alloc::Global;
 use std::test::Fail;
-use term_table::{Id, Node, Places, Table};
+use term_table::{Id, Node, Table};
 use vcgen::vc;
 use word_ops::Profile;
 
@@ -89,7 +89,7 @@ fn cut_code(alloc: Global) -> Made<Cut>
 /// formula.
 fn proved_return(alloc: Global, policy: &Policy) -> Made<Vec<u8>> {
     let cut = cut_code(alloc)?;
-    let mut table = Table::new(alloc, Places::sigma3());
+    let mut table = Table::new(alloc, LONGEST.places());
     let condition = made(vc(&mut table, &cut, policy, &[], None))?;
     let lemma = truth(&mut table)?;
     let lemmas = [lemma];

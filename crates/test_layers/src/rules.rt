@@ -3,7 +3,7 @@
 ghost use Rattle.std.specs.Prelude.{◌<◌, ◌^◌, [], ◌∷◌, length, OnOk};
 ghost use Rattle.term_table.specs.Table.{AllKnown, Extends, IsKnown};
 ghost use Rattle.lf_signature.specs.Constants.{declared};
-ghost use Rattle.lf_signature.specs.declared.WordSignature.TheVariants.{Sigma3};
+ghost use Rattle.lf_signature.specs.declared.editions.WordSignature.TheVariants.{Sigma3};
 ghost use Rattle.lf_lemmas.specs.Lemmas.{formulas_of, with_lemmas};
 ghost use Rattle.lf_lemmas.specs.Tables.{lemmas_in, LemmasKnown, HoldsLemmas, HoldsProvedLemmas};
 ghost use Rattle.lf_sequents.specs.Sequents.{AreSequents, IsSequent};

@@ -3,7 +3,7 @@
 ghost use Rattle.std.specs.Prelude.{◌<◌, ◌^◌, length, IfOk, OnOk, IsTrue};
 ghost use Rattle.term_table.specs.Table.{IsKnown, Extends};
 ghost use Rattle.lf_signature.specs.Constants.{declared};
-ghost use Rattle.lf_signature.specs.declared.WordSignature.TheVariants.{Sigma2};
+ghost use Rattle.lf_signature.specs.declared.editions.WordSignature.TheVariants.{Sigma2};
 ghost use Rattle.lf_lemmas.specs.Tables.{LemmasKnown, HoldsLemmas};
 
 use crate::answers::{decided, found};

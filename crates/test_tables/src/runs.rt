@@ -18,8 +18,8 @@ fn result_text(
         PacketResult::Short => format!(in alloc; "short"),
         PacketResult::Ran(Outcome::OutOfSteps, _) => format!(in alloc; "out of steps"),
         PacketResult::Ran(Outcome::Returned(word), sum) => match policy {
-            None | Some(PolicyKind::Filter) => format!(in alloc; "{word}"),
-            Some(PolicyKind::Tag) | Some(PolicyKind::Table) => format!(in alloc; "{word} {sum}"),
+            Some(kind) if kind.has_sum() => format!(in alloc; "{word} {sum}"),
+            _ => format!(in alloc; "{word}"),
         },
         PacketResult::Ran(Outcome::Blocked { index, kind, addr }, _) => match kind {
             Kind::Load => format!(in alloc; "blocked {index} load {addr:016x}"),

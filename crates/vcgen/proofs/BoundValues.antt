@@ -1,5 +1,5 @@
 -- What has to hold says nothing of the values of bound variables where no variable is free.
-use Rattle.std.proofs.Common.{◌≡◌, ℕ, zero, suc, ◌+◌, ◌<◌, ◌^◌, ◌↔◌, Bool, true, false, eqb, List, [], ◌∷◌, length, map, Option, Some, None, slice_get, refl, sym, ◌∙◌, ap, subst, arith, inl, inr, set}
+use Rattle.std.proofs.Common.{◌≡◌, ℕ, zero, suc, ◌+◌, ◌<◌, ◌^◌, ◌↔◌, Bool, cond, true, false, eqb, List, [], ◌∷◌, length, map, Option, Some, None, slice_get, refl, sym, ◌∙◌, ap, subst, arith, inl, inr, set}
 use Rattle.std.proofs.lemmas.List.{length-map, length-set}
 use Rattle.std.proofs.lemmas.Bool.{cases_Bool}
 use Rattle.word_ops.specs.Words.{word_of, test_of}
@@ -9,8 +9,10 @@ use Rattle.word_ops.specs.declared.Op.TheVariants.{Sub}
 use Rattle.word_ops.specs.declared.Rel.TheVariants.{Ult}
 use Rattle.alpha_words.specs.declared.insn.Rhs.{Rhs}
 use Rattle.alpha_words.specs.declared.insn.Rhs.TheVariants.{Reg, Lit}
-use Rattle.alpha_words.specs.declared.insn.Cond.{Cond}
-use Rattle.alpha_words.specs.declared.insn.Cond.TheVariants.{LowClear, Zero, Negative, NotPositive, LowSet, NotZero, NotNegative, Positive}
+use Rattle.alpha_words.specs.declared.conditions.Cond.{Cond}
+use Rattle.alpha_words.specs.declared.conditions.Tested.{Tested}
+use Rattle.alpha_words.specs.declared.conditions.Tested.TheVariants.{Word, LowBit}
+use Rattle.alpha_words.specs.Conditions.{cond_tested, cond_taken}
 use Rattle.alpha_words.specs.declared.insn.Insn.{Insn}
 use Rattle.alpha_cfg.specs.Actions.{Computed, Sum, Applied, Always, When, Action, action_of}
 use Rattle.alpha_cfg.specs.Actions as actions
@@ -23,7 +25,7 @@ use Rattle.formula_tree.proofs.Meaning.{both_ways, subst-truth}
 use Rattle.lf_encode.proofs.Naming.{below}
 use Rattle.vcgen.specs.Variables.{HasVarsBelowExp, HasVarsBelowMem, HasVarsBelow}
 use Rattle.vcgen.specs.Assignments.{unchanged, for_reg, for_memory, for_left}
-use Rattle.vcgen.specs.Conditions.{AnnotatedCode, reg_exp, rhs_exp, address_exp, taken_if, passed_if, at_target, computed_exp, action_condition, insn_condition, one_step_less, condition_at, invariant_at, or_else, wp_within, wp, body, entered, aligned_exp}
+use Rattle.vcgen.specs.Conditions.{AnnotatedCode, reg_exp, rhs_exp, address_exp, negated, tested_exp, tested_if, taken_if, passed_if, at_target, computed_exp, action_condition, insn_condition, one_step_less, condition_at, invariant_at, or_else, wp_within, wp, body, entered, aligned_exp}
 use Rattle.vcgen.specs.Safety.{IsAnnotated}
 use Rattle.vcgen.proofs.Substitutions.{length-unchanged}
 use Rattle.vcgen.proofs.Values.{for_reg-value, for_memory-value, for_left-value}
@@ -153,25 +155,23 @@ vars-rhs_exp : (rhs : Rhs) → HasVarsBelowExp 0 (rhs_exp rhs)
 vars-rhs_exp (Reg r) = vars-reg_exp r
 vars-rhs_exp (Lit n) = tt
 
+vars-tested_exp : (t : Tested) (x : Exp) → HasVarsBelowExp 0 x → HasVarsBelowExp 0 (tested_exp t x)
+vars-tested_exp Word x o = o
+vars-tested_exp LowBit x o = (o, tt)
+
+vars-either : (c : Cond) (x : Exp) → HasVarsBelowExp 0 x → (b : Bool) → HasVarsBelow 0 (cond b (tested_if c x) (negated (tested_if c x)))
+vars-either c x o true = (vars-tested_exp (cond_tested c) x o, tt)
+vars-either c x o false = ((vars-tested_exp (cond_tested c) x o, tt), tt)
+
+vars-other : (c : Cond) (x : Exp) → HasVarsBelowExp 0 x → (b : Bool) → HasVarsBelow 0 (cond b (negated (tested_if c x)) (tested_if c x))
+vars-other c x o true = ((vars-tested_exp (cond_tested c) x o, tt), tt)
+vars-other c x o false = (vars-tested_exp (cond_tested c) x o, tt)
+
 vars-taken_if : (c : Cond) (x : Exp) → HasVarsBelowExp 0 x → HasVarsBelow 0 (taken_if c x)
-vars-taken_if LowClear x o = ((o, tt), tt)
-vars-taken_if Zero x o = (o, tt)
-vars-taken_if Negative x o = (o, tt)
-vars-taken_if NotPositive x o = (o, tt)
-vars-taken_if LowSet x o = (((o, tt), tt), tt)
-vars-taken_if NotZero x o = ((o, tt), tt)
-vars-taken_if NotNegative x o = ((o, tt), tt)
-vars-taken_if Positive x o = ((o, tt), tt)
+vars-taken_if c x o = vars-either c x o (cond_taken c)
 
 vars-passed_if : (c : Cond) (x : Exp) → HasVarsBelowExp 0 x → HasVarsBelow 0 (passed_if c x)
-vars-passed_if LowClear x o = (((o, tt), tt), tt)
-vars-passed_if Zero x o = ((o, tt), tt)
-vars-passed_if Negative x o = ((o, tt), tt)
-vars-passed_if NotPositive x o = ((o, tt), tt)
-vars-passed_if LowSet x o = ((o, tt), tt)
-vars-passed_if NotZero x o = (o, tt)
-vars-passed_if NotNegative x o = (o, tt)
-vars-passed_if Positive x o = (o, tt)
+vars-passed_if c x o = vars-other c x o (cond_taken c)
 
 ignores-target : (next : ℕ → Form) (o : Option ℕ) → ((j : ℕ) → IgnoresBound (next j)) → IgnoresBound (at_target next o)
 ignores-target next None h = ignores-closed FFalse tt

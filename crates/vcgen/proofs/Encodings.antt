@@ -18,26 +18,25 @@ use Rattle.vcgen.specs.Encoded.{context_of, annotated, AreForms, AreEncodings, E
 use Rattle.vcgen.proofs.WalkTrees.{encodes-within}
 use Rattle.vcgen.proofs.BoundValues.{vars-form}
 use Rattle.vcgen.proofs.Steps.{condition-safe, condition-returns}
-use Rattle.lf_signature.specs.Constants.{declared}
-use Rattle.lf_signature.specs.declared.WordSignature.{WordSignature}
-use Rattle.lf_signature.specs.declared.WordSignature.TheVariants.{Sigma3}
+use Rattle.lf_signature.specs.Constants.{declared, Longest}
+use Rattle.lf_signature.specs.declared.editions.WordSignature.{WordSignature}
 use Rattle.lf_signature.specs.Laws.Restricted.{checks_more}
 use Rattle.lf_signature.specs.Laws.Within.{declared_known, declared-longest}
 
 -- what is a form over a signature is one over the longest
 pub forms-wider : (s : WordSignature) (bound : Option ℕ) (ps : List (ℕ × Tree))
-    → AreForms s bound ps → AreForms Sigma3 bound ps
+    → AreForms s bound ps → AreForms Longest bound ps
 forms-wider s bound [] h = tt
 forms-wider s bound (p ∷ ps) h =
-    (checks_more (declared s) (declared Sigma3) (declared-longest s) h.0, forms-wider s bound ps h.1)
+    (checks_more (declared s) (declared Longest) (declared-longest s) h.0, forms-wider s bound ps h.1)
 
 -- invariants that are forms have formulas
-formulas-of : (bound : Option ℕ) (ps : List (ℕ × Tree)) → AreForms Sigma3 bound ps
+formulas-of : (bound : Option ℕ) (ps : List (ℕ × Tree)) → AreForms Longest bound ps
     → (qs : List (ℕ × Form)) × AreEncodings bound ps qs
 formulas-of bound [] h = ([], tt)
 formulas-of bound (p ∷ ps) h =
     let ctx = context_of bound in
-    let f = form_encoded (declared Sigma3) (declared_known Sigma3) ctx p.1 h.0 in
+    let f = form_encoded (declared Longest) (declared_known Longest) ctx p.1 h.0 in
     let r = formulas-of bound ps h.1 in
     ((p.0, f.0) ∷ r.0, (refl, f.1, r.1))
 
@@ -72,7 +71,7 @@ vars-inv bound (p ∷ ps) (q ∷ qs) f i F e =
     ]
 
 pub encoding-exists : (policy : PolicyView) (bound : Option ℕ) (code : List Insn)
-    (invs : List (ℕ × Tree)) → AreForms Sigma3 bound invs
+    (invs : List (ℕ × Tree)) → AreForms Longest bound invs
     → (vc : Tree) × EncodesCondition policy bound code invs vc
 encoding-exists policy bound code invs h =
     let f = formulas-of bound invs h in (

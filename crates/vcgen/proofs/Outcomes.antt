@@ -1,18 +1,20 @@
 -- Where what has to hold before an instruction is true, its step is not blocked and leads to where what has to hold is true.
-use Rattle.std.proofs.Common.{◌≡◌, ℕ, ◌+◌, Bool, true, false, not, List, [], length, Option, Some, None, set, refl, sym, ◌∙◌, ap, subst, inl, inr}
+use Rattle.std.proofs.Common.{◌≡◌, ℕ, ◌+◌, Bool, cond, true, false, not, List, [], length, Option, Some, None, set, refl, sym, ◌∙◌, ap, subst, inl, inr}
 use Rattle.std.proofs.lemmas.Bool.{cases_Bool, false≢true}
 use Rattle.std.proofs.lemmas.List.{length-set}
-use Rattle.word_ops.specs.Words.{word_of}
+use Rattle.word_ops.specs.Words.{word_of, test_of}
 use Rattle.word_ops.specs.Memory.{Memory, read, write}
 use Rattle.word_ops.specs.Registers.{read_reg, write_reg}
 use Rattle.word_ops.specs.Rights.{Rights, allowed}
-use Rattle.alpha_words.specs.declared.insn.Cond.{Cond}
-use Rattle.alpha_words.specs.declared.insn.Cond.TheVariants.{LowClear, Zero, Negative, NotPositive, LowSet, NotZero, NotNegative, Positive}
+use Rattle.alpha_words.specs.declared.conditions.Cond.{Cond}
+use Rattle.alpha_words.specs.declared.conditions.Tested.{Tested}
+use Rattle.alpha_words.specs.declared.conditions.Tested.TheVariants.{Word, LowBit}
+use Rattle.alpha_words.specs.Conditions.{cond_tested, cond_relation, cond_taken}
 use Rattle.alpha_words.specs.declared.insn.Insn.{Insn}
 use Rattle.alpha_cfg.specs.Actions.{Computed, Sum, Applied, Always, When, Action, action_of}
 use Rattle.alpha_cfg.specs.Actions as actions
 use Rattle.alpha_cfg.specs.Flow.{jump_of}
-use Rattle.alpha_cfg.specs.Machine.{State, rhs_word, address_of, takes, access_outcome, state_at, word_computed, action_outcome, insn_outcome, aligned}
+use Rattle.alpha_cfg.specs.Machine.{State, rhs_word, address_of, tested_word, compares, takes, access_outcome, state_at, word_computed, action_outcome, insn_outcome, aligned}
 use Rattle.alpha_cfg.specs.declared.outcome.Kind.{Kind}
 use Rattle.alpha_cfg.specs.declared.outcome.Kind.TheVariants.{Load, Store}
 use Rattle.alpha_cfg.specs.declared.outcome.Step.{Step}
@@ -22,7 +24,7 @@ use Rattle.formula_tree.specs.Substitution.{subst_form}
 use Rattle.formula_tree.specs.Truth.{Valuation, Bound, exp_value, mem_value, IsTrueIn}
 use Rattle.formula_tree.proofs.Meaning.{subst-truth}
 use Rattle.vcgen.specs.Assignments.{unchanged, for_reg, for_memory}
-use Rattle.vcgen.specs.Conditions.{reg_exp, rhs_exp, address_exp, taken_if, passed_if, at_target, computed_exp, action_condition, insn_condition, aligned_exp}
+use Rattle.vcgen.specs.Conditions.{reg_exp, rhs_exp, address_exp, negated, tested_exp, tested_if, taken_if, passed_if, at_target, computed_exp, action_condition, insn_condition, aligned_exp}
 use Rattle.vcgen.proofs.Substitutions.{length-unchanged}
 use Rattle.vcgen.proofs.Values.{reg_exp-value, rhs_exp-value, address_exp-value, for_reg-value, for_memory-value, write_reg-set, aligned_exp-value}
 
@@ -39,25 +41,30 @@ not-false false n = sym n
 false-true : (b : Bool) → b ≡ false → b ≡ true → ⊥
 false-true b n e = false≢true (sym n ∙ e)
 
+-- what a branch compares with 0 has the value that the machine compares
+tested-value : (t : Tested) (x : Exp) (v : Valuation) (ρ : List Bound) → exp_value (tested_exp t x) v ρ ≡ tested_word t (exp_value x v ρ)
+tested-value Word x v ρ = refl
+tested-value LowBit x v ρ = refl
+
+module _ (R : Rights) (c : Cond) (x : Exp) (v : Valuation) (ρ : List Bound) where
+  same-test : test_of (cond_relation c) (exp_value (tested_exp (cond_tested c) x) v ρ) 0 ≡ compares c (exp_value x v ρ)
+  same-test = ap (λ w. test_of (cond_relation c) w 0) (tested-value (cond_tested c) x v ρ)
+
+  taken-either : (b : Bool) → cond b (compares c (exp_value x v ρ)) (not (compares c (exp_value x v ρ))) ≡ true
+      → IsTrueIn R (cond b (tested_if c x) (negated (tested_if c x))) v ρ
+  taken-either true e = same-test ∙ e
+  taken-either false e = not-true _ (ap not same-test ∙ e)
+
+  passed-either : (b : Bool) → cond b (compares c (exp_value x v ρ)) (not (compares c (exp_value x v ρ))) ≡ false
+      → IsTrueIn R (cond b (negated (tested_if c x)) (tested_if c x)) v ρ
+  passed-either true e = false-true _ (same-test ∙ e)
+  passed-either false e = not-false _ (ap not same-test ∙ e)
+
 taken_if-true : (R : Rights) (c : Cond) (x : Exp) (v : Valuation) (ρ : List Bound) → takes c (exp_value x v ρ) ≡ true → IsTrueIn R (taken_if c x) v ρ
-taken_if-true R LowClear x v ρ e = e
-taken_if-true R Zero x v ρ e = e
-taken_if-true R Negative x v ρ e = e
-taken_if-true R NotPositive x v ρ e = e
-taken_if-true R LowSet x v ρ e = not-true _ e
-taken_if-true R NotZero x v ρ e = not-true _ e
-taken_if-true R NotNegative x v ρ e = not-true _ e
-taken_if-true R Positive x v ρ e = not-true _ e
+taken_if-true R c x v ρ e = taken-either R c x v ρ (cond_taken c) e
 
 passed_if-true : (R : Rights) (c : Cond) (x : Exp) (v : Valuation) (ρ : List Bound) → takes c (exp_value x v ρ) ≡ false → IsTrueIn R (passed_if c x) v ρ
-passed_if-true R LowClear x v ρ e = false-true _ e
-passed_if-true R Zero x v ρ e = false-true _ e
-passed_if-true R Negative x v ρ e = false-true _ e
-passed_if-true R NotPositive x v ρ e = false-true _ e
-passed_if-true R LowSet x v ρ e = not-false _ e
-passed_if-true R NotZero x v ρ e = not-false _ e
-passed_if-true R NotNegative x v ρ e = not-false _ e
-passed_if-true R Positive x v ρ e = not-false _ e
+passed_if-true R c x v ρ e = passed-either R c x v ρ (cond_taken c) e
 
 -- ---- what holds after a step
 

@@ -1,6 +1,6 @@
 -- The condition of formulas over registers, m and, where steps are counted, those that are left
 -- names none of these, and all its literals are words.
-use Rattle.std.proofs.Common.{◌≡◌, ℕ, zero, suc, ◌+◌, ◌<◌, ◌≤◌, ◌^◌, All, Bool, true, false, T, is_some, List, [], ◌∷◌, length, get_or, slice_get, Option, Some, None, refl, sym, ◌∙◌, ap, subst, arith, inl, inr, eqb, ℤ, pos, negsuc, set, get_or-set_same, get_or-set_other, length-set}
+use Rattle.std.proofs.Common.{◌≡◌, ℕ, zero, suc, ◌+◌, ◌<◌, ◌≤◌, ◌^◌, All, Bool, cond, true, false, T, is_some, List, [], ◌∷◌, length, get_or, slice_get, Option, Some, None, refl, sym, ◌∙◌, ap, subst, arith, inl, inr, eqb, ℤ, pos, negsuc, set, get_or-set_same, get_or-set_other, length-set}
 use Rattle.std.proofs.lemmas.Bool.{cases_Bool, cases_lt, cases_eq, eq-eqb, ne_eqb}
 use Rattle.std.proofs.lemmas.List.{get_or_past}
 use Rattle.std.proofs.lemmas.Option.{same_Some}
@@ -9,8 +9,10 @@ use Rattle.std.specs.Int.{cast_unsigned, w64}
 use Rattle.word_ops.specs.declared.Op.TheVariants.{Sub}
 use Rattle.alpha_words.specs.declared.insn.Rhs.{Rhs}
 use Rattle.alpha_words.specs.declared.insn.Rhs.TheVariants.{Reg, Lit}
-use Rattle.alpha_words.specs.declared.insn.Cond.{Cond}
-use Rattle.alpha_words.specs.declared.insn.Cond.TheVariants.{LowClear, Zero, Negative, NotPositive, LowSet, NotZero, NotNegative, Positive}
+use Rattle.alpha_words.specs.declared.conditions.Cond.{Cond}
+use Rattle.alpha_words.specs.declared.conditions.Tested.{Tested}
+use Rattle.alpha_words.specs.declared.conditions.Tested.TheVariants.{Word, LowBit}
+use Rattle.alpha_words.specs.Conditions.{cond_tested, cond_taken}
 use Rattle.alpha_words.specs.declared.insn.Insn.{Insn}
 use Rattle.alpha_words.specs.Encoding.{IsRhs, HasBits}
 use Rattle.alpha_cfg.specs.Actions.{Computed, Sum, Applied, Always, When, Action, action_of, HasOperands}
@@ -25,7 +27,7 @@ use Rattle.lf_encode.specs.Naming.{words}
 use Rattle.lf_encode.proofs.MachineContext.{within-wider}
 use Rattle.lf_encode.proofs.Naming.{Front, Machine, Counted, has_steps, reg_count, far, named_form-over}
 use Rattle.vcgen.specs.Assignments.{regs_from, unchanged, for_reg, for_memory, for_left}
-use Rattle.vcgen.specs.Conditions.{AnnotatedCode, reg_exp, rhs_exp, address_exp, taken_if, passed_if, at_target, computed_exp, action_condition, insn_condition, one_step_less, condition_at, invariant_at, or_else, wp_within, wp, body, alls, close, entered, inv_parts, condition, aligned_exp}
+use Rattle.vcgen.specs.Conditions.{AnnotatedCode, reg_exp, rhs_exp, address_exp, negated, tested_exp, tested_if, taken_if, passed_if, at_target, computed_exp, action_condition, insn_condition, one_step_less, condition_at, invariant_at, or_else, wp_within, wp, body, alls, close, entered, inv_parts, condition, aligned_exp}
 use Rattle.vcgen.specs.Safety.{IsBound, IsAnnotated}
 use Rattle.vcgen.proofs.Substitutions.{unchanged-regs, unchanged-memory, unchanged-left, length-unchanged}
 use Rattle.vcgen.proofs.WalkTrees.{subst-names}
@@ -49,25 +51,23 @@ module _ (l : Bool) where
       → IsWithinExp l 32 (address_exp rb disp) []
   over-address_exp rb disp h b = (over-reg_exp rb h, disp-word disp b)
 
+  over-tested_exp : (t : Tested) (x : Exp) → IsWithinExp l 32 x [] → IsWithinExp l 32 (tested_exp t x) []
+  over-tested_exp Word x o = o
+  over-tested_exp LowBit x o = (o, omega arith)
+
+  over-outcome : (c : Cond) (x : Exp) → IsWithinExp l 32 x [] → (b : Bool) → IsWithin l 32 (cond b (tested_if c x) (negated (tested_if c x))) []
+  over-outcome c x o true = (over-tested_exp (cond_tested c) x o, omega arith)
+  over-outcome c x o false = ((over-tested_exp (cond_tested c) x o, omega arith), tt)
+
+  over-other : (c : Cond) (x : Exp) → IsWithinExp l 32 x [] → (b : Bool) → IsWithin l 32 (cond b (negated (tested_if c x)) (tested_if c x)) []
+  over-other c x o true = ((over-tested_exp (cond_tested c) x o, omega arith), tt)
+  over-other c x o false = (over-tested_exp (cond_tested c) x o, omega arith)
+
   over-taken_if : (c : Cond) (x : Exp) → IsWithinExp l 32 x [] → IsWithin l 32 (taken_if c x) []
-  over-taken_if LowClear x o = ((o, omega arith), omega arith)
-  over-taken_if Zero x o = (o, omega arith)
-  over-taken_if Negative x o = (o, omega arith)
-  over-taken_if NotPositive x o = (o, omega arith)
-  over-taken_if LowSet x o = (((o, omega arith), omega arith), tt)
-  over-taken_if NotZero x o = ((o, omega arith), tt)
-  over-taken_if NotNegative x o = ((o, omega arith), tt)
-  over-taken_if Positive x o = ((o, omega arith), tt)
+  over-taken_if c x o = over-outcome c x o (cond_taken c)
 
   over-passed_if : (c : Cond) (x : Exp) → IsWithinExp l 32 x [] → IsWithin l 32 (passed_if c x) []
-  over-passed_if LowClear x o = (((o, omega arith), omega arith), tt)
-  over-passed_if Zero x o = ((o, omega arith), tt)
-  over-passed_if Negative x o = ((o, omega arith), tt)
-  over-passed_if NotPositive x o = ((o, omega arith), tt)
-  over-passed_if LowSet x o = ((o, omega arith), omega arith)
-  over-passed_if NotZero x o = (o, omega arith)
-  over-passed_if NotNegative x o = (o, omega arith)
-  over-passed_if Positive x o = (o, omega arith)
+  over-passed_if c x o = over-other c x o (cond_taken c)
 
   -- ---- assignments
 

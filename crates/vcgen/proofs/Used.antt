@@ -1,6 +1,6 @@
 -- The condition's operators are those of the code, of its formulas, of addresses and tests, and of
 -- counting.
-use Rattle.std.proofs.Common.{◌≡◌, ℕ, zero, suc, ◌+◌, All, List, [], ◌∷◌, length, slice_get, Option, Some, None, refl, sym, subst, inl, inr, eqb, cond, true, false}
+use Rattle.std.proofs.Common.{◌≡◌, ℕ, zero, suc, ◌+◌, All, List, [], ◌∷◌, length, slice_get, Option, Some, None, refl, sym, subst, inl, inr, eqb, cond, Bool, true, false}
 use Rattle.std.proofs.lemmas.Bool.{cases_Bool}
 use Rattle.std.proofs.lemmas.Option.{same_Some}
 use Rattle.std.proofs.lemmas.List.Elements.{All-head, All-tail}
@@ -8,8 +8,10 @@ use Rattle.word_ops.specs.declared.Op.{Op}
 use Rattle.word_ops.specs.declared.Op.TheVariants.{Add, Sub, Band}
 use Rattle.alpha_words.specs.declared.insn.Rhs.{Rhs}
 use Rattle.alpha_words.specs.declared.insn.Rhs.TheVariants.{Reg, Lit}
-use Rattle.alpha_words.specs.declared.insn.Cond.{Cond}
-use Rattle.alpha_words.specs.declared.insn.Cond.TheVariants.{LowClear, Zero, Negative, NotPositive, LowSet, NotZero, NotNegative, Positive}
+use Rattle.alpha_words.specs.declared.conditions.Cond.{Cond}
+use Rattle.alpha_words.specs.declared.conditions.Tested.{Tested}
+use Rattle.alpha_words.specs.declared.conditions.Tested.TheVariants.{Word, LowBit}
+use Rattle.alpha_words.specs.Conditions.{cond_tested, cond_taken}
 use Rattle.alpha_words.specs.declared.insn.Insn.{Insn}
 use Rattle.alpha_words.specs.declared.insn.Insn.TheVariants.{Oper}
 use Rattle.alpha_cfg.specs.Flow.{jump_of, AreOfProfile}
@@ -20,24 +22,25 @@ use Rattle.formula_tree.proofs.Used.{AllUse, all-set, PutsIn, subst_form-uses}
 use Rattle.lf_encode.specs.Contexts.{machine_names}
 use Rattle.lf_encode.proofs.Named.{named_form-uses}
 use Rattle.vcgen.specs.Assignments.{regs_from, unchanged, for_reg, for_memory, for_left}
-use Rattle.vcgen.specs.Conditions.{AnnotatedCode, reg_exp, rhs_exp, address_exp, aligned_exp, taken_if, passed_if, at_target, computed_exp, action_condition, insn_condition, one_step_less, condition_at, invariant_at, or_else, wp_within, wp, body, alls, close, entered, inv_parts, condition}
+use Rattle.vcgen.specs.Conditions.{AnnotatedCode, reg_exp, rhs_exp, address_exp, aligned_exp, negated, tested_exp, tested_if, taken_if, passed_if, at_target, computed_exp, action_condition, insn_condition, one_step_less, condition_at, invariant_at, or_else, wp_within, wp, body, alls, close, entered, inv_parts, condition}
 use Rattle.vcgen.proofs.WalkTrees.{subst-names}
-use Rattle.word_ops.specs.declared.Profile.TheVariants.{One}
+use Rattle.word_ops.specs.declared.Profile.{Profile}
 use Rattle.alpha_words.specs.Encoding.{has_insn}
 use Rattle.alpha_cfg.specs.Actions as actions
 use Rattle.alpha_cfg.specs.Actions.{Computed, Sum, Applied, Always, When, Action, action_of}
-use Rattle.word_ops.specs.Operators.{IsFirstOp}
+use Rattle.word_ops.specs.Operators.{has_op}
 
 -- the effect's operator, if it has one, is among these
 abbrev pub HasOperator : (Op → Type 0) → Action → Type 0
 HasOperator P (actions.Compute to (Applied op left right)) = P op
 HasOperator P e = Unit {0}
 
--- code of the first profile has that profile's operators alone
-pub first-operators : (code : List Insn) → AreOfProfile One code → (i : ℕ) (insn : Insn) → slice_get code i ≡ Some insn → HasOperator IsFirstOp (action_of insn)
-first-operators code one i insn e = go insn (one i insn e)
+-- code of a profile has that profile's operators alone
+pub profile-operators : (p : Profile) (code : List Insn) → AreOfProfile p code → (i : ℕ) (insn : Insn) → slice_get code i ≡ Some insn
+    → HasOperator (λ o. has_op p o ≡ true) (action_of insn)
+profile-operators p code of i insn e = go insn (of i insn e)
   where
-    go : (x : Insn) → has_insn One x ≡ true → HasOperator IsFirstOp (action_of x)
+    go : (x : Insn) → has_insn p x ≡ true → HasOperator (λ o. has_op p o ≡ true) (action_of x)
     go (Oper op ra rhs rc) h = h
     go _ h = tt
 
@@ -50,25 +53,23 @@ module _ (P : Op → Type 0) (sums : P Add) (ands : P Band) (subs : P Sub) where
   uses-rhs (Reg r) = uses-reg r
   uses-rhs (Lit n) = tt
 
+  uses-tested : (t : Tested) (x : Exp) → UsesExp P x → UsesExp P (tested_exp t x)
+  uses-tested Word x u = u
+  uses-tested LowBit x u = (ands, u, tt)
+
+  uses-either : (c : Cond) (x : Exp) → UsesExp P x → (b : Bool) → Uses P (cond b (tested_if c x) (negated (tested_if c x)))
+  uses-either c x u true = (uses-tested (cond_tested c) x u, tt)
+  uses-either c x u false = ((uses-tested (cond_tested c) x u, tt), tt)
+
+  uses-other : (c : Cond) (x : Exp) → UsesExp P x → (b : Bool) → Uses P (cond b (negated (tested_if c x)) (tested_if c x))
+  uses-other c x u true = ((uses-tested (cond_tested c) x u, tt), tt)
+  uses-other c x u false = (uses-tested (cond_tested c) x u, tt)
+
   uses-taken : (c : Cond) (x : Exp) → UsesExp P x → Uses P (taken_if c x)
-  uses-taken LowClear x u = ((ands, u, tt), tt)
-  uses-taken Zero x u = (u, tt)
-  uses-taken Negative x u = (u, tt)
-  uses-taken NotPositive x u = (u, tt)
-  uses-taken LowSet x u = (((ands, u, tt), tt), tt)
-  uses-taken NotZero x u = ((u, tt), tt)
-  uses-taken NotNegative x u = ((u, tt), tt)
-  uses-taken Positive x u = ((u, tt), tt)
+  uses-taken c x u = uses-either c x u (cond_taken c)
 
   uses-passed : (c : Cond) (x : Exp) → UsesExp P x → Uses P (passed_if c x)
-  uses-passed LowClear x u = (((ands, u, tt), tt), tt)
-  uses-passed Zero x u = ((u, tt), tt)
-  uses-passed Negative x u = ((u, tt), tt)
-  uses-passed NotPositive x u = ((u, tt), tt)
-  uses-passed LowSet x u = ((ands, u, tt), tt)
-  uses-passed NotZero x u = (u, tt)
-  uses-passed NotNegative x u = (u, tt)
-  uses-passed Positive x u = (u, tt)
+  uses-passed c x u = uses-other c x u (cond_taken c)
 
   -- ---- assignments
 

@@ -1,5 +1,5 @@
 -- The walk forward on terms makes the encoding of the verification condition.
-use Rattle.std.proofs.Common.{◌≡◌, ℕ, zero, suc, ◌+◌, eqb, Bool, false, is_some, List, [], ◌∷◌, map, length, set, slice_get, Option, Some, None, refl, sym, ◌∙◌, ap, inl, inr, ℤ}
+use Rattle.std.proofs.Common.{◌≡◌, ℕ, zero, suc, ◌+◌, eqb, Bool, true, false, cond, is_some, List, [], ◌∷◌, map, length, set, slice_get, Option, Some, None, refl, sym, ◌∙◌, ap, inl, inr, ℤ}
 use Rattle.std.proofs.Common.{length-set}
 use Rattle.std.proofs.lemmas.List.{map-set}
 use Rattle.std.proofs.Math.ListN.{get_or-map}
@@ -9,14 +9,16 @@ use Rattle.word_ops.specs.declared.Op.TheVariants.{Add, Sub}
 use Rattle.word_ops.specs.declared.Rel.TheVariants.{Ult}
 use Rattle.alpha_words.specs.declared.insn.Rhs.{Rhs}
 use Rattle.alpha_words.specs.declared.insn.Rhs.TheVariants.{Reg, Lit}
-use Rattle.alpha_words.specs.declared.insn.Cond.{Cond}
-use Rattle.alpha_words.specs.declared.insn.Cond.TheVariants.{LowClear, Zero, Negative, NotPositive, LowSet, NotZero, NotNegative, Positive}
+use Rattle.alpha_words.specs.declared.conditions.Cond.{Cond}
+use Rattle.alpha_words.specs.declared.conditions.Tested.{Tested}
+use Rattle.alpha_words.specs.declared.conditions.Tested.TheVariants.{Word, LowBit}
+use Rattle.alpha_words.specs.Conditions.{cond_tested, cond_relation, cond_taken}
 use Rattle.alpha_words.specs.declared.insn.Insn.{Insn}
 use Rattle.alpha_cfg.specs.Actions.{Computed, Sum, Applied, Always, When, Action, action_of}
 use Rattle.alpha_cfg.specs.Actions as actions
 use Rattle.alpha_cfg.specs.Flow.{jump_of}
 use Rattle.term_table.specs.Tree.{Tree, Var}
-use Rattle.lf_signature.specs.Terms.{lit, op_term, sel, upd, falsity, rel_term, rd, wr, and_term, imp_term, all_term, allm_term}
+use Rattle.lf_signature.specs.Terms.{lit, op_term, sel, upd, falsity, rel_term, rd, wr, and_term, imp_term, not_term, all_term, allm_term}
 use Rattle.formula_tree.specs.Formulas.{Exp, ELeft, ELit, EOp, ESel, MemExp, MMem, MUpd, Form, FFalse, FImp, FAllm}
 use Rattle.formula_tree.specs.Substitution.{Substitution, subst_exp, subst_mem, subst_form}
 use Rattle.formula_tree.specs.Scope.{IsWithin, IsOver}
@@ -29,9 +31,9 @@ use Rattle.lf_encode.proofs.Naming.{named_form-is}
 use Rattle.lf_encode.proofs.MachineContext.{of-context, of-left, names_in-machine, names_in-left}
 use Rattle.lf_encode.proofs.PutTree.{put-encoding}
 use Rattle.vcgen.specs.Assignments.{for_reg, for_memory}
-use Rattle.vcgen.specs.Conditions.{AnnotatedCode, reg_exp, rhs_exp, address_exp, taken_if, passed_if, at_target, computed_exp, action_condition, insn_condition, one_step_less, condition_at, invariant_at, or_else, wp_within, wp, body, alls, close, entered, inv_parts, condition, aligned_exp}
+use Rattle.vcgen.specs.Conditions.{AnnotatedCode, reg_exp, rhs_exp, address_exp, negated, tested_exp, tested_if, taken_if, passed_if, at_target, computed_exp, action_condition, insn_condition, one_step_less, condition_at, invariant_at, or_else, wp_within, wp, body, alls, close, entered, inv_parts, condition, aligned_exp}
 use Rattle.vcgen.specs.Encoded.{context_of, AreEncodings}
-use Rattle.vcgen.specs.WalkTree.{reg_term, rhs_term, address_term, tested_term, taken_term, passed_term, with_reg, with_memory, walked_to, computed_term, terms_effect, walked_on, walked_insn, with_left, one_less, walked_at, inv_term, ended, walked, walked_from, var_terms, start_terms, entry_terms, all_terms, machine_term, closed_term, part_terms, condition_term, aligned_term}
+use Rattle.vcgen.specs.WalkTree.{reg_term, rhs_term, address_term, tested_part, tested_term, taken_term, passed_term, with_reg, with_memory, walked_to, computed_term, terms_effect, walked_on, walked_insn, with_left, one_less, walked_at, inv_term, ended, walked, walked_from, var_terms, start_terms, entry_terms, all_terms, machine_term, closed_term, part_terms, condition_term, aligned_term}
 use Rattle.vcgen.proofs.Substitutions.{subst-for_reg, subst-for_memory, subst-for_left, subst-other}
 
 -- ---- formulas in the context of code with a bound
@@ -88,25 +90,28 @@ computed_term-is : (t : Substitution) (word : Computed) → computed_term (machi
 computed_term-is t (Sum base disp) = address_term-is t base disp
 computed_term-is t (Applied op left right) = let a = reg_term-is t left in let b = rhs_term-is t right in λ k. op_term op (a k) (b k)
 
+tested_part-is : (s : Tested) (x : Exp) (t : Substitution) → tested_part s (exp_encoding (subst_exp x t)) ≡ exp_encoding (subst_exp (tested_exp s x) t)
+tested_part-is Word x t = refl
+tested_part-is LowBit x t = refl
+
+tested_term-is : (c : Cond) (x : Exp) (t : Substitution) → tested_term c (exp_encoding (subst_exp x t)) ≡ form_encoding (subst_form (tested_if c x) t)
+tested_term-is c x t = ap (λ y. rel_term (cond_relation c) y (lit 0)) (tested_part-is (cond_tested c) x t)
+
+either-is : (c : Cond) (x : Exp) (t : Substitution) (b : Bool) → cond b (tested_term c (exp_encoding (subst_exp x t))) (not_term (tested_term c (exp_encoding (subst_exp x t))))
+    ≡ form_encoding (subst_form (cond b (tested_if c x) (negated (tested_if c x))) t)
+either-is c x t true = tested_term-is c x t
+either-is c x t false = ap not_term (tested_term-is c x t)
+
+other-is : (c : Cond) (x : Exp) (t : Substitution) (b : Bool) → cond b (not_term (tested_term c (exp_encoding (subst_exp x t)))) (tested_term c (exp_encoding (subst_exp x t)))
+    ≡ form_encoding (subst_form (cond b (negated (tested_if c x)) (tested_if c x)) t)
+other-is c x t true = ap not_term (tested_term-is c x t)
+other-is c x t false = tested_term-is c x t
+
 taken_term-is : (c : Cond) (x : Exp) (t : Substitution) → taken_term c (tested_term c (exp_encoding (subst_exp x t))) ≡ form_encoding (subst_form (taken_if c x) t)
-taken_term-is LowClear x t = refl
-taken_term-is Zero x t = refl
-taken_term-is Negative x t = refl
-taken_term-is NotPositive x t = refl
-taken_term-is LowSet x t = refl
-taken_term-is NotZero x t = refl
-taken_term-is NotNegative x t = refl
-taken_term-is Positive x t = refl
+taken_term-is c x t = either-is c x t (cond_taken c)
 
 passed_term-is : (c : Cond) (x : Exp) (t : Substitution) → passed_term c (tested_term c (exp_encoding (subst_exp x t))) ≡ form_encoding (subst_form (passed_if c x) t)
-passed_term-is LowClear x t = refl
-passed_term-is Zero x t = refl
-passed_term-is Negative x t = refl
-passed_term-is NotPositive x t = refl
-passed_term-is LowSet x t = refl
-passed_term-is NotZero x t = refl
-passed_term-is NotNegative x t = refl
-passed_term-is Positive x t = refl
+passed_term-is c x t = other-is c x t (cond_taken c)
 
 -- ---- one instruction
 

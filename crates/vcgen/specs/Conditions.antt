@@ -3,11 +3,13 @@
 use Rattle.std.specs.Prelude.{ℕ, zero, suc, ◌+◌, ◌==◌, if◌then◌else◌, List, [], ◌∷◌, length, slice_get, Option, Some, None, ℤ, ◌-◌, ◌^◌}
 use Rattle.std.specs.Int.{cast_unsigned, w64}
 use Rattle.word_ops.specs.declared.Op.TheVariants.{Add, Sub, Band}
-use Rattle.word_ops.specs.declared.Rel.TheVariants.{Eq, Ult, Slt, Sle}
+use Rattle.word_ops.specs.declared.Rel.TheVariants.{Ult}
 use Rattle.alpha_words.specs.declared.insn.Rhs.{Rhs}
 use Rattle.alpha_words.specs.declared.insn.Rhs.TheVariants.{Reg, Lit}
-use Rattle.alpha_words.specs.declared.insn.Cond.{Cond}
-use Rattle.alpha_words.specs.declared.insn.Cond.TheVariants.{LowClear, Zero, Negative, NotPositive, LowSet, NotZero, NotNegative, Positive}
+use Rattle.alpha_words.specs.declared.conditions.Cond.{Cond}
+use Rattle.alpha_words.specs.declared.conditions.Tested.{Tested}
+use Rattle.alpha_words.specs.declared.conditions.Tested.TheVariants.{Word, LowBit}
+use Rattle.alpha_words.specs.Conditions.{cond_tested, cond_relation, cond_taken}
 use Rattle.alpha_words.specs.declared.insn.Insn.{Insn}
 use Rattle.alpha_cfg.specs.Actions.{Computed, Sum, Applied, Always, When, Action, action_of}
 use Rattle.alpha_cfg.specs.Actions as actions
@@ -48,27 +50,22 @@ aligned_exp a = EOp Band a (ELit (2 ^ 64 - 8))
 abbrev pub negated : Form → Form
 negated A = FImp A FFalse
 
--- what holds of the tested register where a conditional branch is taken
+-- what a branch compares with 0
+abbrev pub tested_exp : Tested → Exp → Exp
+tested_exp Word x = x
+tested_exp LowBit x = EOp Band x (ELit 1)
+
+-- what a conditional branch tests of its register
+abbrev pub tested_if : Cond → Exp → Form
+tested_if c x = FRel (cond_relation c) (tested_exp (cond_tested c) x) (ELit 0)
+
+-- what holds of it where the branch is taken
 abbrev pub taken_if : Cond → Exp → Form
-taken_if LowClear x = FRel Eq (EOp Band x (ELit 1)) (ELit 0)
-taken_if Zero x = FRel Eq x (ELit 0)
-taken_if Negative x = FRel Slt x (ELit 0)
-taken_if NotPositive x = FRel Sle x (ELit 0)
-taken_if LowSet x = negated (FRel Eq (EOp Band x (ELit 1)) (ELit 0))
-taken_if NotZero x = negated (FRel Eq x (ELit 0))
-taken_if NotNegative x = negated (FRel Slt x (ELit 0))
-taken_if Positive x = negated (FRel Sle x (ELit 0))
+taken_if c x = if cond_taken c then tested_if c x else negated (tested_if c x)
 
 -- and where it isn't
 abbrev pub passed_if : Cond → Exp → Form
-passed_if LowClear x = negated (FRel Eq (EOp Band x (ELit 1)) (ELit 0))
-passed_if Zero x = negated (FRel Eq x (ELit 0))
-passed_if Negative x = negated (FRel Slt x (ELit 0))
-passed_if NotPositive x = negated (FRel Sle x (ELit 0))
-passed_if LowSet x = FRel Eq (EOp Band x (ELit 1)) (ELit 0)
-passed_if NotZero x = FRel Eq x (ELit 0)
-passed_if NotNegative x = FRel Slt x (ELit 0)
-passed_if Positive x = FRel Sle x (ELit 0)
+passed_if c x = if cond_taken c then negated (tested_if c x) else tested_if c x
 
 -- ---- one instruction
 

@@ -11,7 +11,7 @@ use Rattle.lf_encode.specs.Encoding.{form_encoding}
 use Rattle.lf_encode.specs.declared.contexts.Sort as sort
 use Rattle.lf_encode.specs.Contexts.{machine_context, left_context, sort_types, EncodesForm}
 use Rattle.vcgen.specs.Conditions.{AnnotatedCode, condition}
-use Rattle.lf_signature.specs.declared.WordSignature.{WordSignature}
+use Rattle.lf_signature.specs.declared.editions.WordSignature.{WordSignature}
 
 -- what invariants are over: m and r0 to r30, and the steps that are left where these are counted
 abbrev pub context_of : Option ℕ → List sort.Sort

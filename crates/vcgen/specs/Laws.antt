@@ -10,8 +10,8 @@ use Rattle.formula_tree.specs.Truth.{IsValid}
 use Rattle.policy_set.specs.Views.{PolicyView, IsPolicy}
 use Rattle.policy_set.specs.Satisfies.{Satisfies}
 use Rattle.term_table.specs.Tree.{Tree}
-use Rattle.lf_signature.specs.declared.WordSignature.{WordSignature}
-use Rattle.lf_signature.specs.declared.WordSignature.TheVariants.{Sigma3}
+use Rattle.lf_signature.specs.declared.editions.WordSignature.{WordSignature}
+use Rattle.lf_signature.specs.Constants.{Longest}
 use Rattle.vcgen.specs.Conditions.{AnnotatedCode, invariant_at, wp, body, condition}
 use Rattle.vcgen.specs.Safety.{IsBound, IsAnnotated, IsSafe, ReturnsWithin, Holds, IsGoodStep, IsGoodRun, all_steps}
 use Rattle.vcgen.specs.Encoded.{annotated, AreForms, AreEncodings, EncodesCondition}
@@ -58,13 +58,13 @@ ConditionClosed =
 abbrev pub FormsWider : Type 0
 FormsWider =
     (s : WordSignature) (bound : Option ℕ) (invs : List (ℕ × Tree)) → AreForms s bound invs
-    → AreForms Sigma3 bound invs
+    → AreForms Longest bound invs
 
 -- Invariants that are forms have one condition.
 abbrev pub EncodingExists : Type 0
 EncodingExists =
     (policy : PolicyView) (bound : Option ℕ) (code : List Insn) (invs : List (ℕ × Tree))
-    → AreForms Sigma3 bound invs → (vc : Tree) × EncodesCondition policy bound code invs vc
+    → AreForms Longest bound invs → (vc : Tree) × EncodesCondition policy bound code invs vc
 
 -- They have one at most.
 abbrev pub EncodingUnique : Type 0

@@ -3,11 +3,13 @@
 use Rattle.std.specs.Prelude.{ℕ, zero, suc, ◌+◌, ◌==◌, if◌then◌else◌, List, [], ◌∷◌, length, slice_get, slice_index_or, slice_set, Option, Some, None, ℤ, ◌-◌, ◌^◌}
 use Rattle.std.specs.Int.{cast_unsigned, w64}
 use Rattle.word_ops.specs.declared.Op.TheVariants.{Add, Sub, Band}
-use Rattle.word_ops.specs.declared.Rel.TheVariants.{Eq, Ult, Slt, Sle}
+use Rattle.word_ops.specs.declared.Rel.TheVariants.{Ult}
 use Rattle.alpha_words.specs.declared.insn.Rhs.{Rhs}
 use Rattle.alpha_words.specs.declared.insn.Rhs.TheVariants.{Reg, Lit}
-use Rattle.alpha_words.specs.declared.insn.Cond.{Cond}
-use Rattle.alpha_words.specs.declared.insn.Cond.TheVariants.{LowClear, Zero, Negative, NotPositive, LowSet, NotZero, NotNegative, Positive}
+use Rattle.alpha_words.specs.declared.conditions.Cond.{Cond}
+use Rattle.alpha_words.specs.declared.conditions.Tested.{Tested}
+use Rattle.alpha_words.specs.declared.conditions.Tested.TheVariants.{Word, LowBit}
+use Rattle.alpha_words.specs.Conditions.{cond_tested, cond_relation, cond_taken}
 use Rattle.alpha_words.specs.declared.insn.Insn.{Insn}
 use Rattle.alpha_cfg.specs.Actions.{Sum, Applied, Always, When, Action, action_of}
 use Rattle.alpha_cfg.specs.Actions as actions
@@ -35,38 +37,22 @@ address_term s rb disp = op_term Add (reg_term s rb) (lit (cast_unsigned w64 dis
 abbrev pub aligned_term : Tree → Tree
 aligned_term a = op_term Band a (lit (2 ^ 64 - 8))
 
+-- what a branch compares with 0
+abbrev pub tested_part : Tested → Tree → Tree
+tested_part Word x = x
+tested_part LowBit x = op_term Band x (lit 1)
+
 -- what a conditional branch tests, which holds or doesn't where it is taken
 abbrev pub tested_term : Cond → Tree → Tree
-tested_term LowClear x = rel_term Eq (op_term Band x (lit 1)) (lit 0)
-tested_term Zero x = rel_term Eq x (lit 0)
-tested_term Negative x = rel_term Slt x (lit 0)
-tested_term NotPositive x = rel_term Sle x (lit 0)
-tested_term LowSet x = rel_term Eq (op_term Band x (lit 1)) (lit 0)
-tested_term NotZero x = rel_term Eq x (lit 0)
-tested_term NotNegative x = rel_term Slt x (lit 0)
-tested_term Positive x = rel_term Sle x (lit 0)
+tested_term c x = rel_term (cond_relation c) (tested_part (cond_tested c) x) (lit 0)
 
 -- what holds where it is taken
 abbrev pub taken_term : Cond → Tree → Tree
-taken_term LowClear t = t
-taken_term Zero t = t
-taken_term Negative t = t
-taken_term NotPositive t = t
-taken_term LowSet t = not_term t
-taken_term NotZero t = not_term t
-taken_term NotNegative t = not_term t
-taken_term Positive t = not_term t
+taken_term c t = if cond_taken c then t else not_term t
 
 -- and where it isn't
 abbrev pub passed_term : Cond → Tree → Tree
-passed_term LowClear t = not_term t
-passed_term Zero t = not_term t
-passed_term Negative t = not_term t
-passed_term NotPositive t = not_term t
-passed_term LowSet t = t
-passed_term NotZero t = t
-passed_term NotNegative t = t
-passed_term Positive t = t
+passed_term c t = if cond_taken c then not_term t else t
 
 -- ---- the walk
 

@@ -4,7 +4,7 @@ use Rattle.std.specs.Prelude.{ℕ, zero, suc, List, [], ◌∷◌, pos, negsuc}
 use Rattle.word_ops.specs.declared.Op.TheVariants.{Add, Sub, Cmpult}
 use Rattle.word_ops.specs.declared.Rel.TheVariants.{Eq, Ult, Ule}
 use Rattle.alpha_words.specs.declared.insn.Rhs.TheVariants.{Lit}
-use Rattle.alpha_words.specs.declared.insn.Cond.TheVariants.{Zero, NotZero}
+use Rattle.alpha_words.specs.declared.conditions.Cond.TheVariants.{Zero, NotZero}
 use Rattle.alpha_words.specs.declared.insn.Insn.{Insn}
 use Rattle.alpha_words.specs.declared.insn.Insn.TheVariants.{Lda, Ldq, Stq, Oper, Branch, Br, Ret}
 use Rattle.formula_tree.specs.Formulas.{Exp, EReg, ELeft, EVar, ELit, EOp, Form, FTrue, FFalse, FRel, FRd, FWr, FAnd, FImp, FAll}

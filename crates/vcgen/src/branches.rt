@@ -4,10 +4,9 @@ ghost use Rattle.std.specs.Prelude.{IfOk};
 ghost use Rattle.term_table.specs.Table.{IsKnown, tree_at, Extends};
 ghost use Rattle.lf_signature.specs.Nodes.{IsIdOf};
 ghost use Rattle.lf_signature.specs.Terms.{lit, rel_term, not_term};
-ghost use Rattle.alpha_words.specs.declared.insn.Cond.TheVariants.{LowClear};
-ghost use Rattle.vcgen.specs.WalkTree.{tested_term, taken_term, passed_term};
+ghost use Rattle.vcgen.specs.WalkTree.{tested_part, tested_term, taken_term, passed_term};
 
-use alpha_words::Cond;
+use alpha_words::{Cond, Tested, cond_relation, cond_taken, cond_tested};
 use lf_signature::numbers::{FF, IMP};
 use lf_signature::{app2, rel_constant};
 use std::alloc::AllocError;
@@ -24,15 +23,19 @@ fn against_zero(table: &mut Table, rel: Rel, x: Id) -> Result<Id, AllocError>
     app2(table, rel_constant(rel), x, zero)
 }
 
-/// The formula that the lowest bit of the term is 0.
-fn low_clear(table: &mut Table, x: Id) -> Result<Id, AllocError>
+/// What a branch compares with 0, of the register's term `x`.
+fn compared(table: &mut Table, part: Tested, x: Id) -> Result<Id, AllocError>
     requires { IsKnown table.old x }
-    ensures id { IfOk result (IsIdOf table.new (tested_term LowClear (tree_at table.old x))) }
+    ensures id { IfOk result (IsIdOf table.new (tested_part part (tree_at table.old x))) }
     ensures extends { Extends table.old table.new }
 {
-    let one = table.intern(Node::Lit(1))?;
-    let bit = app2(table, op_constant(Op::Band), x, one)?;
-    against_zero(table, Rel::Eq, bit)
+    match part {
+        Tested::Word => Ok(x),
+        Tested::LowBit => {
+            let one = table.intern(Node::Lit(1))?;
+            app2(table, op_constant(Op::Band), x, one)
+        }
+    }
 }
 
 /// The formula that the condition tests of the register's term `x`.
@@ -41,12 +44,8 @@ pub(crate) fn tested(table: &mut Table, cond: Cond, x: Id) -> Result<Id, AllocEr
     ensures id { IfOk result (IsIdOf table.new (tested_term cond (tree_at table.old x))) }
     ensures extends { Extends table.old table.new }
 {
-    match cond {
-        Cond::LowClear | Cond::LowSet => low_clear(table, x),
-        Cond::Zero | Cond::NotZero => against_zero(table, Rel::Eq, x),
-        Cond::Negative | Cond::NotNegative => against_zero(table, Rel::Slt, x),
-        Cond::NotPositive | Cond::Positive => against_zero(table, Rel::Sle, x),
-    }
+    let part = compared(table, cond_tested(cond), x)?;
+    against_zero(table, cond_relation(cond), part)
 }
 
 /// The negation of `formula`.
@@ -65,9 +64,10 @@ pub(crate) fn taken(table: &mut Table, cond: Cond, tested: Id) -> Result<Id, All
     ensures id { IfOk result (IsIdOf table.new (taken_term cond (tree_at table.old tested))) }
     ensures extends { Extends table.old table.new }
 {
-    match cond {
-        Cond::LowClear | Cond::Zero | Cond::Negative | Cond::NotPositive => Ok(tested),
-        Cond::LowSet | Cond::NotZero | Cond::NotNegative | Cond::Positive => negated(table, tested),
+    if cond_taken(cond) {
+        Ok(tested)
+    } else {
+        negated(table, tested)
     }
 }
 
@@ -77,8 +77,9 @@ pub(crate) fn passed(table: &mut Table, cond: Cond, tested: Id) -> Result<Id, Al
     ensures id { IfOk result (IsIdOf table.new (passed_term cond (tree_at table.old tested))) }
     ensures extends { Extends table.old table.new }
 {
-    match cond {
-        Cond::LowClear | Cond::Zero | Cond::Negative | Cond::NotPositive => negated(table, tested),
-        Cond::LowSet | Cond::NotZero | Cond::NotNegative | Cond::Positive => Ok(tested),
+    if cond_taken(cond) {
+        negated(table, tested)
+    } else {
+        Ok(tested)
     }
 }

@@ -9,7 +9,7 @@ ghost use Rattle.lf_signature.specs.Nodes.{IsIdOf};
 ghost use Rattle.lf_signature.specs.Terms.{imp_term};
 ghost use Rattle.lf_encode.specs.PutTree.{machine_terms_at};
 ghost use Rattle.lf_encode.specs.Contexts.{machine_context, encoding_in};
-ghost use Rattle.lf_signature.specs.declared.WordSignature.TheVariants.{Sigma3};
+ghost use Rattle.lf_signature.specs.Constants.{Longest};
 ghost use Rattle.vcgen.specs.Encoded.{AreForms};
 ghost use Rattle.vcgen.specs.Answers.{IsVcAnswer, AreLowInvs, SpendsVc};
 ghost use Rattle.vcgen.specs.WalkTree.{start_terms, all_terms};
@@ -207,7 +207,7 @@ pub fn vc(
     bound: Option<u32>,
 ) -> Result<Id, VcFault>
     requires invs { AreLowInvs table.old invs.now }
-    requires forms { AreForms Sigma3 bound (id_trees table.old invs.now) }
+    requires forms { AreForms Longest bound (id_trees table.old invs.now) }
     requires marks { AreFlags (map (λ p. p.0) invs.now) (length cut.now.code) cut.now.marks }
     ensures exact { let trees = id_trees table.old invs.now in
         IsVcAnswer policy.now bound cut.now trees table.new result }
@@ -230,7 +230,7 @@ pub fn vc_with(
     bound: Option<u32>,
 ) -> Result<Id, VcFault>
     requires invs { AreLowInvs table.old invs.now }
-    requires forms { AreForms Sigma3 bound (id_trees table.old invs.now) }
+    requires forms { AreForms Longest bound (id_trees table.old invs.now) }
     requires marks { AreFlags (map (λ p. p.0) invs.now) (length cut.now.code) cut.now.marks }
     requires memo { IsMemo table.old memo.old }
     ensures exact { let trees = id_trees table.old invs.now in

@@ -1,14 +1,15 @@
 -- What commands are proved by.
 use Rattle.std.specs.Prelude.{Bool, is_ok, if◌then◌else◌}
 use Rattle.std.proofs.lemmas.Bool.{le-ltb}
-use Rattle.std.proofs.Common.{◌≡◌, ◌≢◌, true≢false, ℕ, zero, suc, ◌-◌, ◌≤◌, List, [], ◌∷◌, length, Option, Some, None, Result, Ok, Err, slice_get, refl, sym, ap, ◌∙◌, subst, arith}
+use Rattle.std.proofs.Common.{◌≡◌, ◌≢◌, true, true≢false, ℕ, zero, suc, ◌-◌, ◌≤◌, List, [], ◌∷◌, length, Option, Some, None, Result, Ok, Err, slice_get, refl, sym, ap, ◌∙◌, subst, arith}
 use Rattle.asm_text.specs.declared.sources.Source as source
 use Rattle.asm_text.specs.Sources.{Source}
 use Rattle.packet_store.specs.Packets.{AreShort}
 use Rattle.packet_store.specs.declared.reader.TheConstants.{MAX_PACKET}
 use Rattle.proof_container.specs.Contents.{Contents}
 use Rattle.proof_container.specs.Decoding.{Fault, decoded_container, contents_or}
-use Rattle.proof_container.specs.Versions.{IsVersion, IsBoundOf}
+use Rattle.proof_container.specs.Versions.{is_bounded, IsVersion, IsBoundOf}
+use Rattle.proof_container.proofs.Bounded.{unbounded}
 use Rattle.proof_container.specs.declared.limits.TheConstants.{MAX_BYTES}
 use Rattle.term_table.specs.Steps.{◌>>=◌}
 use Rattle.view_container.specs.declared.stop.ListFault.{ListFault}
@@ -68,8 +69,8 @@ built-version (Some n) version h = let is = h.0 in (omega (arith, is), omega (ar
 -- and its bound is one that the version may have
 pub bound-in-range : (bound : Option ℕ) (version : ℕ) → IsVersionOf bound version
     → IsBoundOf version bound
-bound-in-range None version h = λ is. omega (arith, h.1, is)
-bound-in-range (Some n) version h = h
+bound-in-range None version h = unbounded version h.1
+bound-in-range (Some n) version h = (subst (λ v. is_bounded v ≡ true) (sym h.0) refl, h.1, h.2)
 
 -- ---- listings
 

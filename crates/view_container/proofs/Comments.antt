@@ -13,7 +13,7 @@ use Rattle.term_table.specs.Bytes.{IsBytes}
 use Rattle.term_table.specs.Tree.{Tree}
 use Rattle.term_table.specs.Measures.{height_of, weight_of, capped}
 use Rattle.lf_signature.specs.Constants.{places_of}
-use Rattle.lf_signature.specs.declared.WordSignature.{WordSignature}
+use Rattle.lf_signature.specs.declared.editions.WordSignature.{WordSignature}
 use Rattle.alpha_cfg.specs.CodeBytes.{code_word_at}
 use Rattle.asm_text.specs.Statements.{is_printable, are_printable}
 use Rattle.proof_container.specs.declared.container.Head.{Head}

@@ -1,14 +1,13 @@
 -- Contents that are a source: what their code and their invariants are, and that these can be
 -- spelled.
-use Rattle.std.proofs.Common.{◌≡◌, inl, inr, ℕ, suc, ◌*◌, ◌/◌, ◌<◌, ◌≤◌, Bool, true, false, cond, List, [], ◌∷◌, length, Option, Some, None, Result, Ok, Err}
+use Rattle.std.proofs.Common.{◌≡◌, inl, inr, ℕ, suc, ◌*◌, ◌/◌, ◌<◌, ◌≤◌, Bool, true, false, List, [], ◌∷◌, length, Option, Some, None, Result, Ok, Err}
 use Rattle.std.proofs.Common.{refl, sym, ap, ◌∙◌, subst, arith}
-use Rattle.std.specs.Prelude.{is_some, ◌==◌, not}
+use Rattle.std.specs.Prelude.{is_some, not}
 use Rattle.std.specs.List.{AllByRecursion, list_all}
 use Rattle.std.proofs.lemmas.Bool.{and_parts, leb-true}
 use Rattle.std.proofs.lemmas.List.{length-map}
 use Rattle.word_ops.specs.declared.Op.{Op}
 use Rattle.word_ops.specs.declared.Profile.{Profile}
-use Rattle.word_ops.specs.declared.Profile.TheVariants.{One, Two}
 use Rattle.word_ops.specs.Operators.{has_op}
 use Rattle.alpha_words.specs.declared.insn.Insn.{Insn}
 use Rattle.alpha_cfg.specs.declared.fault.CodeFlaw.{CodeFlaw}
@@ -24,11 +23,10 @@ use Rattle.formula_tree.specs.Operators.{Uses}
 use Rattle.formula_tree.specs.Scope.{IsWithin}
 use Rattle.formula_tree.proofs.Used.{uses-more}
 use Rattle.formula_text.specs.Printing.{form_text}
-use Rattle.lf_signature.specs.declared.WordSignature.{WordSignature}
-use Rattle.lf_signature.specs.declared.WordSignature.TheVariants.{Sigma1}
 use Rattle.lf_signature.specs.Constants.{declared}
 use Rattle.lf_signature.specs.Known.{HasOp}
-use Rattle.lf_signature.specs.Laws.Within.{declared_known, declared-first}
+use Rattle.lf_signature.specs.Laws.Signatures.{edition-operators}
+use Rattle.lf_signature.specs.Laws.Within.{declared_known, declared-has}
 use Rattle.lf_encode.specs.Contexts.{machine_context, encoding_in, EncodesForm, IsFormIn}
 use Rattle.lf_encode.proofs.Named.{form_encoded}
 use Rattle.lf_encode.proofs.MachineContext.{within-wider, of-context, of-left, encoding-either}
@@ -133,11 +131,8 @@ within None F h = within-wider false F 31 32 [] (omega arith) (of-context 31 F h
 within (Some most) F h = within-wider true F 31 32 [] (omega arith) (of-left 31 F h)
 
 has-op : (v : ℕ) (o : Op) → HasOp (declared (signature_of v)) o → has_op (profile_of v) o ≡ true
-has-op v o h = go (v == 1) _ h where
-  go : (b : Bool) (s : WordSignature) → HasOp (declared (cond b Sigma1 s)) o
-      → has_op (cond b One Two) o ≡ true
-  go true s h = declared-first o h
-  go false s h = refl
+has-op v o h =
+    ap (λ p. has_op p o) (sym (edition-operators v)) ∙ declared-has (signature_of v) o h
 
 encoded : (bound : Option ℕ) (F : Form) (t : Tree) → EncodesForm (context_of bound) F t
     → encoding_in machine_context F ≡ t

@@ -5,7 +5,7 @@ use Rattle.std.specs.Result.{IsErrAnd}
 use Rattle.alpha_words.specs.declared.insn.Insn.{Insn}
 use Rattle.term_table.specs.Tree.{Tree}
 use Rattle.term_table.specs.Steps.{◌>>=◌}
-use Rattle.lf_signature.specs.declared.WordSignature.{WordSignature}
+use Rattle.lf_signature.specs.declared.editions.WordSignature.{WordSignature}
 use Rattle.vcgen.specs.Encoded.{AreForms}
 use Rattle.proof_container.specs.Contents.{Contents, roots}
 use Rattle.proof_container.specs.Versions.{signature_of}

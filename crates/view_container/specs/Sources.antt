@@ -9,7 +9,7 @@ use Rattle.term_table.specs.Steps.{◌>>=◌}
 use Rattle.formula_tree.specs.Formulas.{Form}
 use Rattle.formula_text.specs.Printing.{form_text}
 use Rattle.asm_text.specs.declared.limits.TheConstants.{MAX_SOURCE}
-use Rattle.lf_signature.specs.declared.WordSignature.{WordSignature}
+use Rattle.lf_signature.specs.declared.editions.WordSignature.{WordSignature}
 use Rattle.proof_container.specs.Versions.{profile_of, signature_of}
 use Rattle.proof_container.specs.Contents.{Contents, roots}
 use Rattle.pcc_gate.specs.First.{too_high, formless, formulas}

@@ -3,7 +3,7 @@
 ghost use Rattle.std.specs.Prelude.{◌≡◌, ◌≤◌, None, IfOk, All, List, map, length};
 ghost use Rattle.alpha_cfg.specs.Cuts.{AreFlags, unfolded_of};
 ghost use Rattle.term_table.specs.Table.{Extends, id_trees};
-ghost use Rattle.lf_signature.specs.declared.WordSignature.TheVariants.{Sigma3};
+ghost use Rattle.lf_signature.specs.Constants.{Longest};
 ghost use Rattle.proof_container.specs.Views.{contents_of};
 ghost use Rattle.vcgen.specs.Answers.{AreLowInvs};
 ghost use Rattle.vcgen.specs.Encoded.{AreForms, annotated};
@@ -41,7 +41,7 @@ fn parts_of(
     bound: Option<u32>,
 ) -> Result<Vec<PartRows>, Exhausted>
     requires invs { AreLowInvs table.old invs.now }
-    requires forms { AreForms Sigma3 bound (id_trees table.old invs.now) }
+    requires forms { AreForms Longest bound (id_trees table.old invs.now) }
     requires marks { AreFlags (map (λ p. p.0) invs.now) (length cut.now.code) cut.now.marks }
     requires short { unfolded_of cut.now.code cut.now.marks ≤ MAX_UNFOLDED }
     ensures parts { let invs = formulas (id_trees table.old invs.now) in

@@ -4,7 +4,7 @@ use Rattle.std.specs.Prelude.{ℕ, nat_le, Bool, false, if◌then◌else◌, Lis
 use Rattle.formula_tree.specs.Formulas.{Form}
 use Rattle.formula_text.specs.Printing.{form_text}
 use Rattle.term_table.specs.Tree.{Tree}
-use Rattle.lf_signature.specs.declared.WordSignature.TheVariants.{Sigma3}
+use Rattle.lf_signature.specs.Constants.{Longest}
 use Rattle.proof_container.specs.Encoding.{entry_number}
 use Rattle.pcc_gate.specs.First.{has_form, formula_of}
 use Rattle.view_entries.specs.Sizes.{node_count}
@@ -14,7 +14,7 @@ use Rattle.view_lines.specs.declared.limits.TheConstants.{MAX_SHOWN}
 
 -- the formula that a term encodes over the variables of code with that bound, where it is one
 unfoldable pub formula_in : Option ℕ → Tree → Option Form
-formula_in bound t = if has_form Sigma3 bound t then Some (formula_of t) else None
+formula_in bound t = if has_form Longest bound t then Some (formula_of t) else None
 
 -- the formula's text, where that has at most MAX_SHOWN bytes
 abbrev pub text_within : Option Form → Option (List ℕ)

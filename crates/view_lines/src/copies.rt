@@ -10,9 +10,10 @@ ghost use Rattle.proof_container.specs.Walks.{IsLeft};
 ghost use Rattle.proof_container.specs.Inside.Walked.{left_trees};
 ghost use Rattle.view_lines.specs.Inside.Copies.{IsBegunCopy};
 
+use lf_signature::LONGEST;
 use proof_container::Walk;
 use std::alloc::{AllocError, Global};
-use term_table::{Id, Node, Places, Table};
+use term_table::{Id, Node, Table};
 
 /// Returns the number that the walk gave to a tree that it has left.
 pub(crate) fn number(table: &Table, walk: &Walk, id: Id) -> u64
@@ -98,7 +99,7 @@ pub(crate) fn copy_of(alloc: Global, table: &Table, walk: &Walk) -> Result<Table
     requires order { ArePostorder [] (left_trees table.now walk.now) }
     ensures { IfOk result (λ t. t.trees ≡ left_trees table.now walk.now) }
 {
-    let mut copy = Table::new(alloc, Places::sigma3());
+    let mut copy = Table::new(alloc, LONGEST.places());
     for index in 0..walk.left.len() {
         let id = walk.left[index];
         copy_tree(table, walk, &mut copy, id)?;

@@ -15,7 +15,7 @@ use crate::limits::MAX_SHOWN;
 use formula_text::print_form;
 use formula_tree::Form;
 use lf_encode::{form_of, left_context, machine_context};
-use lf_signature::{WordSignature, typing_laws};
+use lf_signature::{LONGEST, typing_laws};
 use std::alloc::{AllocError, Global};
 use term_table::{Id, Node, Table};
 use view_values::is_false;
@@ -86,8 +86,8 @@ fn formula_in(table: &mut Table, bound: Option<u32>, id: Id) -> Result<Option<Fo
 {
     typing_laws();
     match bound {
-        None => form_of(table, &WordSignature::Sigma3, id, &machine_context()),
-        Some(_) => form_of(table, &WordSignature::Sigma3, id, &left_context()),
+        None => form_of(table, &LONGEST, id, &machine_context()),
+        Some(_) => form_of(table, &LONGEST, id, &left_context()),
     }
 }
 

@@ -23,6 +23,7 @@ use Rattle.prover_goals.specs.declared.search.Context.{Context}
 use Rattle.view_marks.specs.Marks.{is_easy}
 use Rattle.view_marks.proofs.Wholes.{by_parts, both-hard}
 use Rattle.view_marks.specs.Hints.{missing_part}
+use Rattle.lf_signature.specs.declared.numbers.TheConstants.{ULT_ULE}
 
 -- ---- by calls
 
@@ -169,6 +170,6 @@ module _
     at_most-hard counted Γ a b h =
         let u = upper_bound Γ a in
         let l = lower_bound counted Γ b in
-        let both = not_second (option_map (λ p. word_rule 65 (a ∷ b ∷ []) (p ∷ []))
+        let both = not_second (option_map (λ p. word_rule ULT_ULE (a ∷ b ∷ []) (p ∷ []))
         (find_hyp Γ (FRel Ult a b))) (ule_by a b u l) (by_bounds-hard counted Γ Ule a b h) in
         leb-false u.value l.value (not_there (nat_le u.value l.value) _ both)

@@ -1,14 +1,20 @@
--- What a test finds true of the list of operators is true of every operator; operators are found by what names them, and by nothing else.
-use Rattle.std.proofs.Common.{◌≡◌, ℕ, zero, suc, Bool, true, false, cond, ◌==◌, ◌&&◌, List, [], ◌∷◌, map, slice_get, Some, refl, sym, ◌∙◌, ap, find, eqb-true}
+-- What a test finds true of the list of operators is true of every operator; what operators give is a word; they are found by
+-- what names them, and by nothing else.
+use Rattle.std.proofs.Common.{◌≡◌, ℕ, zero, suc, ◌-◌, ◌*◌, ◌%◌, ◌^◌, ◌<◌, Bool, true, false, cond, ◌==◌, ◌&&◌, List, [], ◌∷◌, map, slice_get, Some, refl, sym, ◌∙◌, ap, find, eqb-true, arith}
 use Rattle.std.specs.List.{list_all}
+use Rattle.std.specs.Int.Bits.{bit_xor}
 use Rattle.std.specs.Option.{option_map}
 use Rattle.std.specs.Str.{bytes_eq}
 use Rattle.std.proofs.lemmas.Slice.Eq.{bytes_eq-Decides}
 use Rattle.std.proofs.lemmas.Bool.{and_parts}
+use Rattle.std.proofs.lemmas.Nat.{and_le_l, or_lt, xor_lt, shr_le, mod_below}
 use Rattle.std.proofs.lemmas.Option.{same_Some, slice_get-map}
 use Rattle.word_ops.specs.declared.Op.{Op}
 use Rattle.word_ops.specs.declared.Op.TheVariants.{Add, Sub, Band, Bis, Sll, Srl, Cmpeq, Cmplt, Cmple, Cmpult, Cmpule, Xor, Bic, S4add, S8add, Sra, Extb, Extw, Extl}
-use Rattle.word_ops.specs.Operators.{operators, op_number, op_constant, op_keyword, op_mnemonic, op_opcode, op_function, op_of, op_of_constant, op_of_keyword, op_of_mnemonic, op_of_code}
+use Rattle.word_ops.specs.declared.Rel.TheVariants.{Eq, Ult, Ule, Slt, Sle}
+use Rattle.word_ops.specs.Words.{word_of, test_of, from_byte}
+use Rattle.word_ops.specs.Operators.{operators, Last, has_op, op_number, op_constant, op_keyword, op_mnemonic, op_opcode, op_function, op_of, op_of_constant, op_of_keyword, op_of_mnemonic, op_of_code}
+use Rattle.word_ops.proofs.Bounds.{flag_of-below, shifted_signed-below}
 
 -- ---- every operator is listed
 
@@ -49,6 +55,33 @@ value_at f o = slice_get-map f operators (op_number o) ∙ ap (option_map f) (li
 -- what has the same values at the list has them at every operator
 pub each_op_same : {A : Type 0} (f g : Op → A) → map f operators ≡ map g operators → (o : Op) → f o ≡ g o
 each_op_same f g e o = same_Some (f o) (g o) (sym (value_at f o) ∙ ap (λ l. slice_get l (op_number o)) e ∙ value_at g o)
+
+-- the last profile has every operator
+pub last_has : (o : Op) → has_op Last o ≡ true
+last_has = each_op (has_op Last) refl
+
+-- ---- what an operator gives is a word
+
+pub word_of-below : (op : Op) (a b : ℕ) → a < 2 ^ 64 → b < 2 ^ 64 → word_of op a b < 2 ^ 64
+word_of-below Add a b p q = omega arith
+word_of-below Sub a b p q = omega arith
+word_of-below Band a b p q = omega (arith, and_le_l a b)
+word_of-below Bis a b p q = or_lt 64 a b p q
+word_of-below Sll a b p q = mod_below (a * 2 ^ (b % 64)) (2 ^ 64) (omega arith)
+word_of-below Srl a b p q = omega (arith, shr_le a (b % 64))
+word_of-below Cmpeq a b p q = flag_of-below (test_of Eq a b)
+word_of-below Cmplt a b p q = flag_of-below (test_of Slt a b)
+word_of-below Cmple a b p q = flag_of-below (test_of Sle a b)
+word_of-below Cmpult a b p q = flag_of-below (test_of Ult a b)
+word_of-below Cmpule a b p q = flag_of-below (test_of Ule a b)
+word_of-below Xor a b p q = xor_lt 64 a b p q
+word_of-below Bic a b p q = omega (arith, and_le_l a (bit_xor b (2 ^ 64 - 1)))
+word_of-below S4add a b p q = omega arith
+word_of-below S8add a b p q = omega arith
+word_of-below Sra a b p q = shifted_signed-below a (b % 64) p
+word_of-below Extb a b p q = omega (arith, mod_below (from_byte a b) (2 ^ 8) (omega arith))
+word_of-below Extw a b p q = omega (arith, mod_below (from_byte a b) (2 ^ 16) (omega arith))
+word_of-below Extl a b p q = omega (arith, mod_below (from_byte a b) (2 ^ 32) (omega arith))
 
 -- ---- what a search finds
 

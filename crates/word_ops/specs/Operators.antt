@@ -91,10 +91,23 @@ op_of_mnemonic w = find (λ o. bytes_eq w (op_mnemonic o)) operators
 abbrev pub op_of_code : ℕ → ℕ → Option Op
 op_of_code opcode function = find (λ o. op_opcode o == opcode && op_function o == function) operators
 
--- whether a profile has the operator: the first has those to cmpule, the second all
+-- the place of a profile among profiles, each of which has what those before it have
+abbrev pub profile_number : Profile → ℕ
+profile_number One = 1
+profile_number Two = 2
+
+-- how many operators a profile has: it has the first ones
+abbrev pub op_count : Profile → ℕ
+op_count One = 11
+op_count Two = 19
+
+-- the last profile, which has all operators
+abbrev pub Last : Profile
+Last = Two
+
+-- whether a profile has the operator
 abbrev pub has_op : Profile → Op → Bool
-has_op One o = nat_lt (op_number o) 11
-has_op Two o = true
+has_op p o = nat_lt (op_number o) (op_count p)
 
 -- the operator, where there is one and the profile has it
 abbrev pub of_profile : Profile → Option Op → Option Op

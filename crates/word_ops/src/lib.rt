@@ -23,8 +23,8 @@ ghost use Rattle.std.specs.Prelude.{◌≡◌, ◌<◌};
 ghost use Rattle.word_ops.specs.Words.{word_of, test_of, shifted_signed};
 
 pub use operators::{
-    OPERATORS, has_op, of_profile, op_code, op_constant, op_keyword, op_mnemonic, op_number, op_of,
-    op_of_code, op_of_constant, op_of_keyword, op_of_mnemonic,
+    OPERATORS, has_op, of_profile, op_code, op_constant, op_count, op_keyword, op_mnemonic,
+    op_number, op_of, op_of_code, op_of_constant, op_of_keyword, op_of_mnemonic, profile_number,
 };
 pub use theorems::{laws, operator_laws, order_laws};
 
@@ -73,12 +73,12 @@ pub enum Op {
     Extl,
 }
 
-/// A set of operators and instructions: `One` has the operators up to `Cmpule`, `Two` has all.
+/// A set of operators and instructions: each has the first operators, `One` fewer than `Two`.
 #[derive(Clone, Copy, Debug, PartialEq, Eq)]
 pub enum Profile {
-    /// The first eleven operators.
+    /// The operators up to `Cmpule`.
     One,
-    /// All operators.
+    /// The operators up to `Extl`.
     Two,
 }
 

@@ -175,14 +175,31 @@ pub fn op_of_code(opcode: u32, function: u32) -> Option<Op>
         .find(|op| has_code(*op, opcode, function))
 }
 
+/// Returns the place of a profile among profiles, from 1 on. Each has what those before it have.
+pub fn profile_number(profile: Profile) -> u32
+    ensures { result ≡ operators.profile_number profile }
+{
+    match profile {
+        Profile::One => 1,
+        Profile::Two => 2,
+    }
+}
+
+/// Returns how many operators `profile` has; it has the first ones.
+pub fn op_count(profile: Profile) -> u32
+    ensures { result ≡ operators.op_count profile }
+{
+    match profile {
+        Profile::One => 11,
+        Profile::Two => 19,
+    }
+}
+
 /// Checks whether `profile` has the operator `op`.
 pub fn has_op(profile: Profile, op: Op) -> bool
     ensures { result ≡ operators.has_op profile op }
 {
-    match profile {
-        Profile::One => op_number(op) < 11,
-        Profile::Two => true,
-    }
+    op_number(op) < op_count(profile)
 }
 
 /// Returns `op` if it is an operator and `profile` has it, else None.

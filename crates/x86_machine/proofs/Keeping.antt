@@ -8,7 +8,8 @@ use Rattle.std.proofs.lemmas.Nat.{mod_below, shr_le}
 use Rattle.word_ops.specs.declared.Op.TheVariants as ops
 use Rattle.word_ops.specs.Memory.{read}
 use Rattle.word_ops.specs.Rights.{allowed}
-use Rattle.word_ops.proofs.Bounds.{word_of-below, shifted_signed-below}
+use Rattle.word_ops.proofs.Bounds.{shifted_signed-below}
+use Rattle.word_ops.proofs.EachOp.{word_of-below}
 use Rattle.word_ops.proofs.Memories.{IsMemory-write, read-below}
 use Rattle.x86_words.specs.declared.operators.AluOp.{AluOp}
 use Rattle.x86_words.specs.declared.operators.AluOp.TheVariants as alu

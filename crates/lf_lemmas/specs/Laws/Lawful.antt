@@ -6,8 +6,7 @@ use Rattle.term_table.proofs.Options.{map_some}
 use Rattle.lf_signature.specs.Terms.{pf}
 use Rattle.lf_signature.specs.Order.{part_before, is_before, IsSignature}
 use Rattle.lf_signature.specs.Typing.{IsType}
-use Rattle.lf_signature.specs.declared.WordSignature.TheVariants.{Sigma3}
-use Rattle.lf_signature.specs.Constants.{declared}
+use Rattle.lf_signature.specs.Constants.{declared, Longest}
 use Rattle.lf_signature.specs.Known.{IsProofType, IsKnownType, lemma, IsKnownSignature}
 use Rattle.lf_signature.specs.Laws.Applied.{pf_type}
 use Rattle.lf_signature.specs.Laws.Booleans.{cond_is}
@@ -104,7 +103,7 @@ module _ (sig : Const → Option Tree) (free : HasNoLemmas sig) (forms : List Tr
 
   module _ (known : IsKnownSignature sig) where
     -- what the signature gives, the longest of word arithmetic gives
-    longest : (c : Const) (a : Tree) → sig c ≡ Some a → declared Sigma3 c ≡ Some a
+    longest : (c : Const) (a : Tree) → sig c ≡ Some a → declared Longest c ≡ Some a
     longest (Num n) a e = known-longest (Num n) a (λ l. l) (known.within (Num n) a e)
     longest (Lit w) a e = known-longest (Lit w) a (λ l. l) (known.within (Lit w) a e)
     longest (Calc o x y) a e =
@@ -122,7 +121,7 @@ module _ (sig : Const → Option Tree) (free : HasNoLemmas sig) (forms : List Tr
         record {
           formula = w.0;
           is = w.2;
-          formed = checks_more sig (declared Sigma3) longest (formulas n w.0 w.1);
+          formed = checks_more sig (declared Longest) longest (formulas n w.0 w.1);
         }
 
     known_type : (c : Const) (a : Tree) → with_lemmas sig forms c ≡ Some a → IsKnownType c a

@@ -5,7 +5,7 @@ use Rattle.word_ops.specs.declared.Op.{Op}
 use Rattle.word_ops.specs.declared.Rel.{Rel}
 use Rattle.word_ops.specs.declared.Rel.TheVariants.{Eq}
 use Rattle.word_ops.specs.Words.{word_of, test_of}
-use Rattle.word_ops.proofs.Bounds.{word_of-below}
+use Rattle.word_ops.proofs.EachOp.{word_of-below}
 use Rattle.term_table.specs.Tree.{Tree, Fam, Pi, Const, Num, Lit, Calc, Fact, Deny, Lemma}
 use Rattle.term_table.proofs.Options.{bind_some, some_injective}
 use Rattle.word_ops.specs.Operators.{op_constant}
@@ -15,10 +15,9 @@ use Rattle.lf_signature.specs.Typing.{Checks, con_synth, IsType, atomic_type, fa
 use Rattle.lf_signature.specs.Simply.{simply, SType}
 use Rattle.lf_signature.specs.Decide.{is_type_of}
 use Rattle.lf_signature.specs.Order.{part_before, IsSignature}
-use Rattle.lf_signature.specs.declared.WordSignature.{WordSignature}
-use Rattle.lf_signature.specs.declared.WordSignature.TheVariants.{Sigma3}
+use Rattle.lf_signature.specs.declared.editions.WordSignature.{WordSignature}
 use Rattle.lf_signature.specs.Rules.{rule_type}
-use Rattle.lf_signature.specs.Constants.{constant_types, the_rules, place_of, type_in, size_of, op_in, is_word, calc_type, fact_type, deny_type, declared}
+use Rattle.lf_signature.specs.Constants.{constant_types, the_rules, place_of, type_in, Longest, size_of, op_in, is_word, calc_type, fact_type, deny_type, declared}
 use Rattle.lf_signature.specs.Laws.Within.{made_number, rule_number, Found, made, ruled, declared-number, declared-below, declared-op_in}
 use Rattle.lf_signature.specs.Laws.Booleans.{both, cond_is, every, every-at}
 use Rattle.lf_signature.specs.Laws.Decided.{type_follows}
@@ -29,20 +28,21 @@ use Rattle.lf_signature.specs.Laws.Applied.{fam_checks, app2_checks, pf_type}
 use Rattle.lf_signature.specs.Laws.Numbered.{declared-rel, declared-falsity, declared-imp}
 
 -- the tests run over the whole tables
-all_made : every (λ i a. is_type_of (part_before (Num (made_number i)) (declared Sigma3)) a []) constant_types ≡ true
+all_made : every (λ i a. is_type_of (part_before (Num (made_number i)) (declared Longest)) a []) constant_types ≡ true
 unfolding constant_types the_rules
 all_made = refl
 
-all_ruled : every (λ i r. is_type_of (part_before (Num (rule_number i)) (declared Sigma3)) (rule_type r) []) the_rules ≡ true
+all_ruled : every (λ i r. is_type_of (part_before (Num (rule_number i)) (declared Longest)) (rule_type r) []) the_rules ≡ true
 unfolding constant_types the_rules
 all_ruled = refl
 
 -- over the constants before a number the signatures that have it don't differ
-before-same : (s : WordSignature) (n : ℕ) → n < size_of s → (c : Const) (a : Tree) → part_before (Num n) (declared Sigma3) c ≡ Some a → part_before (Num n) (declared s) c ≡ Some a
+before-same : (s : WordSignature) (n : ℕ) → n < size_of s → (c : Const) (a : Tree)
+    → part_before (Num n) (declared Longest) c ≡ Some a → part_before (Num n) (declared s) c ≡ Some a
 before-same s n h (Num k) a e =
-    let w = cond_is (nat_lt k n) (declared Sigma3 (Num k)) a e in
+    let w = cond_is (nat_lt k n) (declared Longest (Num k)) a e in
     ap (λ b. cond b (declared s (Num k)) None) w.0
-    ∙ declared-below s k (omega (arith, ltb-true k n w.0, h)) ∙ (cond_is (nat_lt k (size_of Sigma3)) (type_in (place_of k)) a w.1).1
+    ∙ declared-below s k (omega (arith, ltb-true k n w.0, h)) ∙ (cond_is (nat_lt k (size_of Longest)) (type_in (place_of k)) a w.1).1
 before-same s n h (Lit w) a e = e
 before-same s n h (Calc o x y) a e = cc
 before-same s n h (Fact r x y) a e = cc
@@ -51,14 +51,14 @@ before-same s n h (Lemma k) a e = cc
 
 number_formed : (s : WordSignature) (n : ℕ) (a : Tree) → n < size_of s → Found n a → IsType (part_before (Num n) (declared s)) [] a
 number_formed s n a h (made i p e w) =
-    type_more (part_before (Num n) (declared Sigma3)) (part_before (Num n) (declared s)) (before-same s n h)
-    (subst (λ k. IsType (part_before (Num k) (declared Sigma3)) [] a) e
-    (type_follows (part_before (Num (made_number i)) (declared Sigma3)) a [] (every-at (λ k b. is_type_of (part_before (Num (made_number k)) (declared Sigma3)) b []) constant_types i a all_made w)))
+    type_more (part_before (Num n) (declared Longest)) (part_before (Num n) (declared s)) (before-same s n h)
+    (subst (λ k. IsType (part_before (Num k) (declared Longest)) [] a) e
+    (type_follows (part_before (Num (made_number i)) (declared Longest)) a [] (every-at (λ k b. is_type_of (part_before (Num (made_number k)) (declared Longest)) b []) constant_types i a all_made w)))
 number_formed s n a h (ruled i r p e f w q) =
-    type_more (part_before (Num n) (declared Sigma3)) (part_before (Num n) (declared s)) (before-same s n h)
-    (subst (λ k. IsType (part_before (Num k) (declared Sigma3)) [] a) e
-    (subst (λ z. IsType (part_before (Num (rule_number i)) (declared Sigma3)) [] z) q
-    (type_follows (part_before (Num (rule_number i)) (declared Sigma3)) (rule_type r) [] (every-at (λ k b. is_type_of (part_before (Num (rule_number k)) (declared Sigma3)) (rule_type b) []) the_rules i r all_ruled w))))
+    type_more (part_before (Num n) (declared Longest)) (part_before (Num n) (declared s)) (before-same s n h)
+    (subst (λ k. IsType (part_before (Num k) (declared Longest)) [] a) e
+    (subst (λ z. IsType (part_before (Num (rule_number i)) (declared Longest)) [] z) q
+    (type_follows (part_before (Num (rule_number i)) (declared Longest)) (rule_type r) [] (every-at (λ k b. is_type_of (part_before (Num (rule_number k)) (declared Longest)) (rule_type b) []) the_rules i r all_ruled w))))
 
 -- a signature with the words, operators, relations and connectives of word arithmetic
 module _ (s : WordSignature) (sig : Const → Option Tree) (numbers : (n : ℕ) → sig (Num n) ≡ declared s (Num n)) (words : (w : ℕ) → sig (Lit w) ≡ declared s (Lit w)) where

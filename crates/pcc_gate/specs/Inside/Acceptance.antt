@@ -10,8 +10,8 @@ use Rattle.formula_tree.specs.Truth.{IsValid}
 use Rattle.policy_set.specs.Views.{PolicyView, IsPolicy}
 use Rattle.term_table.specs.Tree.{Tree}
 use Rattle.lf_lemmas.specs.Tables.{lemmas_in}
-use Rattle.lf_signature.specs.declared.WordSignature.{WordSignature}
-use Rattle.lf_signature.specs.declared.WordSignature.TheVariants.{Sigma3}
+use Rattle.lf_signature.specs.declared.editions.WordSignature.{WordSignature}
+use Rattle.lf_signature.specs.Constants.{Longest}
 use Rattle.term_table.specs.Table.{TableView, IsKnown, tree_at, id_trees}
 use Rattle.vcgen.specs.Conditions.{condition}
 use Rattle.vcgen.specs.Encoded.{annotated, AreForms, AreEncodings}
@@ -35,7 +35,7 @@ pub record IsProved (policy : PolicyView) (bound : Option ℕ) (cut : CutView) (
   pub flags : AreFlags (map (λ p. p.0) (id_trees table invs)) (length cut.code) cut.marks
   pub cuts : IsCut cut.code cut.marks
   pub known : AllByRecursion (λ (inv : ℕ × ℕ). IsKnown table inv.1) invs
-  pub forms : AreForms Sigma3 bound (id_trees table invs)
+  pub forms : AreForms Longest bound (id_trees table invs)
   pub safe : IsSafe cut.code policy.pre policy.post
   pub returns : ReturnsInBound policy bound cut.code
   pub valid : (formulas : List (ℕ × Form)) → AreEncodings bound (id_trees table invs) formulas

@@ -24,7 +24,7 @@ use Rattle.vcgen.specs.declared.condition.TheConstants.{MAX_UNFOLDED}
 use Rattle.pcc_gate.specs.Answers.{IsHeld}
 use Rattle.pcc_gate.specs.First.{too_high, formless, lemma_formless, first_code, first_front, first_long, first_shape, refused_by}
 use Rattle.word_ops.specs.declared.Profile.{Profile}
-use Rattle.lf_signature.specs.declared.WordSignature.{WordSignature}
+use Rattle.lf_signature.specs.declared.editions.WordSignature.{WordSignature}
 use Rattle.proof_container.specs.declared.container.Head.TheVariants.{Number}
 use Rattle.pcc_gate.specs.ForPolicy.{IsFor}
 use Rattle.pcc_gate.specs.Passing.{PassesUntyped}

@@ -5,7 +5,7 @@ use Rattle.word_ops.specs.declared.Op.{Op}
 use Rattle.word_ops.specs.declared.Op.TheVariants.{Add, Sub, Bis, Xor, Bic, S4add, S8add}
 use Rattle.formula_tree.specs.Formulas.{Exp, ELit, EOp}
 use Rattle.lf_terms.specs.Encoding.{exp_encoding}
-use Rattle.lf_terms.specs.declared.numbers.TheConstants.{ADD_ZERO, BIS_ZERO, BIS_ZERO_L, S4_DEF, S8_DEF}
+use Rattle.lf_signature.specs.declared.numbers.TheConstants.{ADD_ZERO, BIS_ZERO, BIS_ZERO_L, S4_DEF, S8_DEF}
 use Rattle.prover_forms.specs.declared.rules.Summand.{Summand}
 use Rattle.prover_forms.specs.declared.rules.Summand.TheVariants as S
 use Rattle.prover_forms.specs.declared.rules.Rule.{Rule}

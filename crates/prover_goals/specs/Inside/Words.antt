@@ -9,7 +9,7 @@ use Rattle.lf_terms.specs.Encoding.{exp_encoding}
 use Rattle.prover_ids.specs.Hypotheses.{AreHyps}
 use Rattle.prover_ids.specs.declared.hypotheses.Hypothesis.{Hypothesis}
 use Rattle.lf_terms.specs.ProofTerms.{word_rule, fact}
-use Rattle.lf_terms.specs.declared.numbers.TheConstants.{LE_LT, LT_LE, ULE_TRANS}
+use Rattle.lf_signature.specs.declared.numbers.TheConstants.{LE_LT, LT_LE, ULE_TRANS}
 use Rattle.prover_class.specs.Hypotheses.{Hyps}
 use Rattle.prover_class.specs.Bounds.{WordBound, upper_bound, lower_bound}
 use Rattle.prover_class.specs.Goals.{aligned_form}

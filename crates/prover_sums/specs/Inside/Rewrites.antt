@@ -9,7 +9,7 @@ use Rattle.formula_tree.specs.Variables.{PExp, subst_var_exp}
 use Rattle.lf_terms.specs.Encoding.{exp_encoding}
 use Rattle.lf_terms.specs.ProofTerms.{word_rule, swap, up}
 use Rattle.prover_class.specs.NormalForms.{Rewriting, rewriting}
-use Rattle.lf_terms.specs.declared.numbers.TheConstants.{ADD_ASSOC, ADD_COMM, BIC_DEF, SUB_NEG, XOR_SELF}
+use Rattle.lf_signature.specs.declared.numbers.TheConstants.{ADD_ASSOC, ADD_COMM, BIC_DEF, SUB_NEG, XOR_SELF}
 use Rattle.prover_forms.specs.Rules.{negated_sum, regrouped_sum, swapped_sum, scaled_sum, cleared_bits}
 use Rattle.prover_sums.specs.declared.rewriting.Rewrite.{Rewrite}
 use Rattle.prover_sums.specs.declared.rewriting.Rewrites.{Rewrites}

@@ -10,7 +10,7 @@ use Rattle.proof_container.specs.declared.limits.TheConstants.{MAX_ENTRIES}
 use Rattle.vcgen.specs.Answers.{AreLowInvs}
 use Rattle.vcgen.specs.Encoded.{AreForms}
 use Rattle.vcgen.proofs.Encodings.{forms-wider}
-use Rattle.lf_signature.specs.declared.WordSignature.TheVariants.{Sigma3}
+use Rattle.lf_signature.specs.Constants.{Longest}
 use Rattle.proof_container.specs.Versions.{signature_of}
 use Rattle.lf_lemmas.specs.Tables.{lemmas_in, LemmasKnown}
 use Rattle.lf_lemmas.specs.Laws.Lawful.{lemmas_stay, lemmas_known}
@@ -32,7 +32,7 @@ prove_condition-requires-clause-invs c =
 pub prove_condition-requires-clause-forms : goal.prove_condition-requires-clause-forms
 prove_condition-requires-clause-forms c =
     let k = c.args.passed.container in
-    subst (λ l. AreForms Sigma3 k.bound (id_trees k.table l)) (sym c.deref.ensures.value)
+    subst (λ l. AreForms Longest k.bound (id_trees k.table l)) (sym c.deref.ensures.value)
     (forms-wider (signature_of k.version) k.bound (id_trees k.table k.invs.items)
     c.requires.passes.forms)
 

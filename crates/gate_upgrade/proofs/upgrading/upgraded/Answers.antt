@@ -5,10 +5,10 @@ use Rattle.proof_container.specs.declared.container.Head.TheVariants.{Number}
 use Rattle.proof_container.specs.Versions.{IsHead}
 use Rattle.proof_container.specs.Views.{contents_of, IsWritable}
 use Rattle.proof_container.specs.Encoding.{encoding_of}
-use Rattle.gate_upgrade.specs.declared.limits.TheConstants.{GROWTH}
+use Rattle.gate_upgrade.specs.declared.limits.TheConstants.{GROWTH, NEW_VERSION}
 use Rattle.gate_upgrade.specs.Upgrading.{size_within}
 use Rattle.pcc_gate.proofs.Digests.{digest-head}
-use Rattle.gate_upgrade.proofs.Renamed.{not-first, not-third, view-terms, view-entries, shown-renamed}
+use Rattle.gate_upgrade.proofs.Renamed.{view-terms, view-entries, shown-renamed}
 use Rattle.gate_upgrade.proofs.Exactly.{head-numbered, upgraded-as}
 use Rattle.gate_upgrade.proofs.upgrading.upgraded.Goals as goal
 
@@ -23,9 +23,9 @@ write-requires c =
     record {
       version = (omega arith, omega arith);
       head =
-          subst (λ (h : Head). IsHead 2 h) (sym c.in_ok-head.ensures)
-          (digest-head (built_in c.in_ok-kind.kind) 2 not-first);
-      bound = not-third;
+          subst (λ (h : Head). IsHead NEW_VERSION h) (sym c.in_ok-head.ensures)
+          (digest-head (built_in c.in_ok-kind.kind) NEW_VERSION refl);
+      bound = refl;
       known = shown.known;
       known_lemmas = tt;
       terms = view-terms c.view-shown.result c.in_ok-number.number shown named;

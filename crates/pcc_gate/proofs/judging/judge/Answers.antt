@@ -1,7 +1,7 @@
 use Rattle.std.proofs.Common.{◌≡◌, ◌≤◌, ℕ, List, length, map, Ok, Err, refl, sym, ◌∙◌, ap, subst}
 use Rattle.alpha_cfg.specs.Cuts.{AreFlags}
 use Rattle.term_table.specs.Table.{Extends, tree_at, id_trees}
-use Rattle.lf_signature.specs.declared.WordSignature.{WordSignature}
+use Rattle.lf_signature.specs.declared.editions.WordSignature.{WordSignature}
 use Rattle.lf_signature.specs.Constants.{declared}
 use Rattle.lf_check.specs.Kept.{AreKept}
 use Rattle.lf_lemmas.specs.Tables.{lemmas_in, LemmasKnown}

@@ -20,7 +20,7 @@ use Rattle.pcc_gate.specs.declared.fault.GateFault.TheVariants as fault
 use Rattle.hereditary_subst.specs.Limits.{is_limited, NeedsLimit}
 use Rattle.pcc_gate.proofs.passing.rest.Goals as goal
 use Rattle.word_ops.specs.declared.Profile.{Profile}
-use Rattle.lf_signature.specs.declared.WordSignature.{WordSignature}
+use Rattle.lf_signature.specs.declared.editions.WordSignature.{WordSignature}
 use Rattle.lf_signature.specs.Constants.{declared}
 use Rattle.lf_check.specs.Kept.{AreKept}
 use Rattle.alpha_cfg.specs.CodeDecoding.{decoded_code}

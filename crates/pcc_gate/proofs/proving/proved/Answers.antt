@@ -1,7 +1,7 @@
 use Rattle.std.proofs.Common.{[], refl, sym, subst}
 use Rattle.term_table.specs.Table.{tree_at, id_trees}
 use Rattle.hereditary_subst.specs.Simples.{IsResult}
-use Rattle.lf_signature.specs.Constants.{declared}
+use Rattle.lf_signature.specs.Constants.{declared, Longest}
 use Rattle.lf_signature.specs.Terms.{pf}
 use Rattle.lf_signature.specs.Typing.{Checks}
 use Rattle.lf_lemmas.specs.Lemmas.{formulas_of, with_lemmas}
@@ -13,7 +13,6 @@ use Rattle.pcc_gate.proofs.First.{judged-true, vc_of-encodes, proves-false}
 use Rattle.pcc_gate.proofs.Kept.{low-more, low-same}
 use Rattle.pcc_gate.proofs.Refusing.{not-both}
 use Rattle.pcc_gate.proofs.proving.proved.Goals as goal
-use Rattle.lf_signature.specs.declared.WordSignature.TheVariants.{Sigma3}
 use Rattle.vcgen.proofs.Encodings.{forms-wider}
 
 pub is_condition_with-requires-clause-invs : goal.is_condition_with-requires-clause-invs
@@ -27,7 +26,7 @@ is_condition_with-requires-clause-forms c =
     let invs = c.args.invs.now in
     let same = low-same o c.formula_proved.new.table invs c.requires.invs
     c.in_ok-formula.ensures.extends in
-    subst (AreForms Sigma3 c.args.bound) same
+    subst (AreForms Longest c.args.bound) same
     (forms-wider c.args.signature c.args.bound (id_trees o invs) c.requires.forms)
 
 pub returns-in_default-clause-answer : goal.returns-in_default-clause-answer

@@ -1,6 +1,7 @@
 use Rattle.std.proofs.Common.{[], ◌∷◌, IfOk, subst}
 use Rattle.word_ops.specs.declared.Op.TheVariants.{Sub}
 use Rattle.lf_signature.specs.Nodes.{IsIdOf}
+use Rattle.lf_signature.specs.declared.numbers.TheConstants.{SUB_LO}
 use Rattle.lf_terms.specs.Encoding.{exp_encoding}
 use Rattle.prover_bounds.specs.BoundIds.{IsWordBound}
 use Rattle.prover_bounds.specs.Candidates.{folded_at}
@@ -19,7 +20,7 @@ returns-clause-is c = λ z x qe qa.
     let e = stands t (exp_encoding z) c.args.e c.requires.e qe in
     let v = own t c.args.v.proof c.requires.v in
     let p =
-    ruled (λ u. IsIdOf c.rule_term.new.table u c.in_ok-proof.proof) 104
+    ruled (λ u. IsIdOf c.rule_term.new.table u c.in_ok-proof.proof) SUB_LO
     (λ i. (more a x3).is i ∷ (more c.in_ok-value.ensures.known e3).is i
     ∷ c.in_ok-taken.ensures.known.is i ∷ (more v x3).is i
     ∷ (more c.in_ok-held.ensures.id (twice e2 e3)).is i ∷ []) c.in_ok-proof.ensures.id in

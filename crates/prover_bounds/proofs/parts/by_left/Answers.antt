@@ -2,6 +2,7 @@ use Rattle.std.proofs.Common.{[], ◌∷◌, refl, subst}
 use Rattle.word_ops.specs.declared.Op.TheVariants.{Band}
 use Rattle.lf_signature.specs.Nodes.{IsIdOf}
 use Rattle.lf_signature.specs.Terms.{op_term}
+use Rattle.lf_signature.specs.declared.numbers.TheConstants.{AND_COMM, AND_LE}
 use Rattle.formula_tree.specs.Formulas.{EOp}
 use Rattle.lf_terms.specs.Encoding.{exp_encoding}
 use Rattle.hereditary_subst.proofs.Rows.{known-more, memo-more}
@@ -27,8 +28,8 @@ returns-clause-is c = λ z x y qe qa qb.
     let form = more (c.in_ok-form.ensures.is x qa) (twice (twice c.in_ok-turned.ensures.extends c.in_ok-equal.ensures.extends) e4) in
     let turned0 = subst (λ u. IsIdOf c.oper.new.table u c.in_ok-turned.turned) (λ i. op_term Band ((more b x1).is i) ((more a x1).is i)) c.in_ok-turned.ensures.id in
     let turned = more turned0 (twice c.in_ok-equal.ensures.extends e4) in
-    let equal = more (ruled (λ z. IsIdOf c.rule_term.new.table z c.in_ok-equal.equal) 51 (λ i. (more b x2).is i ∷ (more a x2).is i ∷ []) c.in_ok-equal.ensures.id) e4 in
-    let least = ruled (λ z. IsIdOf c.rule_term-2.new.table z c.in_ok-least.least) 54 (λ i. (more b x3).is i ∷ (more a x3).is i ∷ []) c.in_ok-least.ensures.id in
+    let equal = more (ruled (λ z. IsIdOf c.rule_term.new.table z c.in_ok-equal.equal) AND_COMM (λ i. (more b x2).is i ∷ (more a x2).is i ∷ []) c.in_ok-equal.ensures.id) e4 in
+    let least = ruled (λ z. IsIdOf c.rule_term-2.new.table z c.in_ok-least.least) AND_LE (λ i. (more b x3).is i ∷ (more a x3).is i ∷ []) c.in_ok-least.ensures.id in
     let back = moved_to (λ z. IsIdOf c.moved.new.table z c.in_ok-back.back) c.in_ok-back.ensures.is (placed Lower x) (EOp Band y x) z form turned (more e x4) equal least in
     let p =
     ruled (λ z. IsIdOf c.rule_term-3.new.table z c.in_ok-proof.proof) 64

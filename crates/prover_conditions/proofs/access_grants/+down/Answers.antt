@@ -3,6 +3,7 @@ use Rattle.term_table.specs.Tree.{Tree}
 use Rattle.term_table.specs.Table.{IsKnown, tree_at}
 use Rattle.formula_tree.specs.Formulas.{Form}
 use Rattle.lf_signature.specs.Nodes.{IsIdOf}
+use Rattle.lf_signature.specs.declared.numbers.TheConstants.{AND_L, AND_R}
 use Rattle.lf_terms.proofs.Slices.{ended}
 use Rattle.lf_terms.specs.ProofTerms.{and_l, and_r}
 use Rattle.prover_class.specs.Access as class
@@ -29,7 +30,7 @@ returns-in_ok-end-in-Left-clause-exact g c = λ A q.
     let at = c.in-And.ensures.is A q in
     let e = c.in_ok-part-in-Left.ensures.extends in
     let ka : IsKnown t c.in-And.a = omega (arith, c.in-And.ensures.below.0, c.requires.form) in
-    let part = ruled (λ z. IsIdOf t1 z c.in_ok-part-in-Left.part) 30 (λ i. at.left_is i ∷ at.right_is i ∷ p ∷ []) c.in_ok-part-in-Left.ensures.id in
+    let part = ruled (λ z. IsIdOf t1 z c.in_ok-part-in-Left.part) AND_L (λ i. at.left_is i ∷ at.right_is i ∷ p ∷ []) c.in_ok-part-in-Left.ensures.id in
     let front = take (length way - 1) way in
     let back : way_back way [] ≡ class.Left ∷ way_back front [] = ap (λ l. way_back l []) (ended way Left Left c.in-len1-up.len_at_least (sym c.in-Left.is)) ∙ way_back-push front Left [] in
     let end = c.in_ok-end-in-Left.ensures.exact at.left (e.same c.in-And.a ka ∙ at.left_is) in
@@ -47,7 +48,7 @@ returns-in_ok-end-in-Right-clause-exact g c = λ A q.
     let at = c.in-And.ensures.is A q in
     let e = c.in_ok-part-in-Right.ensures.extends in
     let kb : IsKnown t c.in-And.b = omega (arith, c.in-And.ensures.below.1, c.requires.form) in
-    let part = ruled (λ z. IsIdOf t1 z c.in_ok-part-in-Right.part) 31 (λ i. at.left_is i ∷ at.right_is i ∷ p ∷ []) c.in_ok-part-in-Right.ensures.id in
+    let part = ruled (λ z. IsIdOf t1 z c.in_ok-part-in-Right.part) AND_R (λ i. at.left_is i ∷ at.right_is i ∷ p ∷ []) c.in_ok-part-in-Right.ensures.id in
     let front = take (length way - 1) way in
     let back : way_back way [] ≡ class.Right ∷ way_back front [] = ap (λ l. way_back l []) (ended way Left Right c.in-len1-up.len_at_least (sym c.in-Right.is)) ∙ way_back-push front Right [] in
     let end = c.in_ok-end-in-Right.ensures.exact at.right (e.same c.in-And.b kb ∙ at.right_is) in

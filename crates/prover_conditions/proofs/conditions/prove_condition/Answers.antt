@@ -1,10 +1,10 @@
-use Rattle.std.proofs.Common.{Bool, length, sym, subst}
+use Rattle.std.proofs.Common.{Bool, length, is_some, refl, sym, subst}
 use Rattle.alpha_cfg.specs.Cuts.{AreFlags}
 use Rattle.term_table.specs.Table.{id_trees}
-use Rattle.lf_signature.specs.declared.WordSignature.TheVariants.{Sigma1, Sigma2}
+use Rattle.lf_signature.specs.declared.editions.WordSignature.TheVariants.{Sigma1, Sigma2}
 use Rattle.pcc_gate.proofs.Refusing.{keys}
 use Rattle.prover_conditions.specs.Conditions.{condition_parts, IsPartsAnswer}
-use Rattle.prover_conditions.proofs.WholeProof.{parts-first, parts-second, found-proves, found-third, uncounted}
+use Rattle.prover_conditions.proofs.WholeProof.{parts-first, parts-any, found-proves, found-longest, uncounted}
 use Rattle.prover_conditions.proofs.conditions.prove_condition.Goals as goal
 
 pub returns-clause-exact : goal.returns-clause-exact
@@ -51,8 +51,9 @@ returns-clause-second c none =
     let flags = subst (λ l. AreFlags l (length code) marks)
     (sym (keys c.args.table.now c.args.invs.now)) c.requires.marks in
     returns-clause-proves c Sigma2 (uncounted bound none Sigma2)
-    (parts-second c.class_laws.ensures.sound policy bound code invs marks c.requires.forms
-    c.is_cut_code.ensures.code flags c.is_cut_code.ensures.cut c.laws.ensures c.is_word.ensures)
+    (parts-any c.class_laws.ensures.sound policy bound code invs marks c.requires.forms
+    c.is_cut_code.ensures.code flags c.is_cut_code.ensures.cut c.laws.ensures c.is_word.ensures
+    Sigma2 refl)
 
 pub returns-clause-third : goal.returns-clause-third
 returns-clause-third c =
@@ -63,6 +64,6 @@ returns-clause-third c =
     let invs = id_trees c.args.table.now c.args.invs.now in
     let flags = subst (λ l. AreFlags l (length code) marks)
     (sym (keys c.args.table.now c.args.invs.now)) c.requires.marks in
-    found-third c.class_laws.ensures.sound policy bound code invs marks c.requires.forms
+    found-longest c.class_laws.ensures.sound policy bound code invs marks c.requires.forms
     c.is_cut_code.ensures.code flags c.is_cut_code.ensures.cut c.laws.ensures c.is_word.ensures
     c.proof_of_parts.new.table c.in_ok-found.found (returns-clause-exact c)

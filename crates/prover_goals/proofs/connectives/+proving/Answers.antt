@@ -3,6 +3,7 @@ use Rattle.term_table.specs.Tree.{shift}
 use Rattle.term_table.specs.Table.{tree_at}
 use Rattle.term_table.specs.Measures.{height_of}
 use Rattle.lf_signature.specs.Nodes.{IsIdOf}
+use Rattle.lf_signature.specs.declared.numbers.TheConstants.{FF_E}
 use Rattle.prover_class.specs.Hypotheses.{find_hyp}
 use Rattle.prover_ids.proofs.Standing.{ruled}
 use Rattle.prover_goals.specs.Provers.{whole_proof, prover_of, IsProofBy}
@@ -127,7 +128,7 @@ unkept_proof-returns-in-Some-absurd-clause-exact g t c =
     let o = c.in_ok-proof in
     falsity_is (prover_of (g.L.Leaf.by a.leaf.now)) a.table.now u a.context.now.hyps a.context.now.outside a.goal c.in-Some-absurd.falsity o.proof a.context.now.absurd c.in-Some-absurd.is c.requires.context.absurd
     (λ Γ A h q. stands_at a.table.now (find_hyp Γ A) c.find_hyp.result None (not_there c.find_hyp.result c.in_default.not-Some) (c.find_hyp.ensures.exact Γ A h q))
-    (λ A q e f. ruled (λ z. IsIdOf u z o.proof) 28 (λ i. e i ∷ f i ∷ []) o.ensures.id)
+    (λ A q e f. ruled (λ z. IsIdOf u z o.proof) FF_E (λ i. e i ∷ f i ∷ []) o.ensures.id)
 
 pub unkept_proof-returns-in-Some-absurd-clause-after :
     goal.unkept_proof-returns-in-Some-absurd-clause-after

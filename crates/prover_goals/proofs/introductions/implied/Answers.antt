@@ -1,5 +1,6 @@
 use Rattle.std.proofs.Common.{[], ◌∷◌, ◌∙◌}
 use Rattle.lf_signature.specs.Nodes.{IsIdOf}
+use Rattle.lf_signature.specs.declared.numbers.TheConstants.{IMP_I}
 use Rattle.lf_terms.specs.ProofTerms.{imp_i}
 use Rattle.prover_ids.proofs.Standing.{ruled}
 use Rattle.prover_goals.proofs.Connecting.{none_made, some_made}
@@ -17,4 +18,4 @@ returns-in_ok-proof-in-Some-clause-exact c = λ A B o qa qb s.
     let n = c.in_ok-proof-in-Some in
     let lam = c.in_ok-under-in-Some.ensures in
     some_made t v (imp_i A B) o c.args.second c.in-Some.p n.proof c.in-Some.is s
-    (ruled (λ z. IsIdOf v z n.proof) 35 (λ i. (lam.extends.same c.args.a c.requires.a ∙ qa) i ∷ (lam.extends.same c.args.b c.requires.b ∙ qb) i ∷ lam.id.1 i ∷ []) n.ensures.id)
+    (ruled (λ z. IsIdOf v z n.proof) IMP_I (λ i. (lam.extends.same c.args.a c.requires.a ∙ qa) i ∷ (lam.extends.same c.args.b c.requires.b ∙ qb) i ∷ lam.id.1 i ∷ []) n.ensures.id)

@@ -5,6 +5,7 @@ use Rattle.term_table.specs.Table.{tree_at, Stands}
 use Rattle.word_ops.specs.declared.Rel.TheVariants.{Ult}
 use Rattle.lf_signature.specs.Nodes.{IsIdOf}
 use Rattle.lf_signature.specs.Terms.{rel_term}
+use Rattle.lf_signature.specs.declared.numbers.TheConstants.{ULT_ULE}
 use Rattle.formula_tree.specs.Formulas.{FRel}
 use Rattle.lf_terms.specs.Encoding.{exp_encoding}
 use Rattle.lf_terms.specs.ProofTerms.{word_rule}
@@ -35,8 +36,8 @@ returns-in_ok-proof-in-Some-clause-exact c = λ Γ x y g qa qb.
     let form = subst (λ (z : Tree). IsIdOf t1 z c.in_ok-form.form) (λ i. rel_term Ult (qa i) (qb i)) c.in_ok-form.ensures.id in
     let found = c.in-Some.ensures.exact Γ (FRel Ult x y) (hyps-after t t1 c.args.context.now.hyps Γ c.requires.context.hyps x1 g) form.is in
     let less = tree_at t1 c.in-Some.less in
-    let made = ruled (λ z. IsIdOf c.rule_term.new.table z c.in_ok-proof-in-Some.proof) 65 (λ i. (more a x1).is i ∷ (more b x1).is i ∷ less ∷ []) c.in_ok-proof-in-Some.ensures.id in
-    (made.known, ap (λ (z : Option Tree). first_of (option_map (λ h. word_rule 65 (x ∷ y ∷ []) (h ∷ [])) z) (ule_by x y (upper_bound Γ x) (lower_bound c.args.counted Γ y))) found.1 ∙ ap Some (sym made.is))
+    let made = ruled (λ z. IsIdOf c.rule_term.new.table z c.in_ok-proof-in-Some.proof) ULT_ULE (λ i. (more a x1).is i ∷ (more b x1).is i ∷ less ∷ []) c.in_ok-proof-in-Some.ensures.id in
+    (made.known, ap (λ (z : Option Tree). first_of (option_map (λ h. word_rule ULT_ULE (x ∷ y ∷ []) (h ∷ [])) z) (ule_by x y (upper_bound Γ x) (lower_bound c.args.counted Γ y))) found.1 ∙ ap Some (sym made.is))
 
 pub returns-in_ok-proof-in-Some-clause-after : goal.returns-in_ok-proof-in-Some-clause-after
 returns-in_ok-proof-in-Some-clause-after c =
@@ -56,5 +57,5 @@ returns-in_ok-rest-in-None-clause-exact c = λ Γ x y g qa qb.
     let h = hyps-after t t1 c.args.context.now.hyps Γ c.requires.context.hyps x1 g in
     let found = c.in-None.ensures.exact Γ (FRel Ult x y) h form.is in
     let made = c.in_ok-rest-in-None.ensures.exact Γ x y h (more a x1).is (more b x1).is in
-    let same = ap (λ (z : Option Tree). first_of (option_map (λ h. word_rule 65 (x ∷ y ∷ []) (h ∷ [])) z) (ule_by x y (upper_bound Γ x) (lower_bound c.args.counted Γ y))) found in
+    let same = ap (λ (z : Option Tree). first_of (option_map (λ h. word_rule ULT_ULE (x ∷ y ∷ []) (h ∷ [])) z) (ule_by x y (upper_bound Γ x) (lower_bound c.args.counted Γ y))) found in
     subst (λ (z : Option Tree). Stands c.at_most_by_bounds.new.table z c.in_ok-rest-in-None.rest) (sym same) made

@@ -4,6 +4,7 @@ use Rattle.term_table.specs.Table.{IsKnown, tree_at, Stands}
 use Rattle.word_ops.specs.declared.Op.{Op}
 use Rattle.word_ops.specs.declared.Op.TheVariants.{Add, Band, Sll}
 use Rattle.lf_signature.specs.Nodes.{IsIdOf}
+use Rattle.lf_signature.specs.declared.numbers.TheConstants.{ADD_AL}
 use Rattle.formula_tree.specs.Formulas.{Exp, EOp}
 use Rattle.lf_terms.specs.Encoding.{exp_encoding}
 use Rattle.prover_class.specs.Goals.{first_of, aligned_form, alignment_proof}
@@ -97,6 +98,6 @@ unkept_alignment-returns-in_ok-proof-in-Add-clause-exact t c = λ Γ x g q.
     let second = stands_at t2 (part Γ p.right) c.in_ok-q-in-Add.field-0 (Some c.in-Some-2.q) c.in-Some-2.is (c.in_ok-q-in-Add.ensures.exact Γ p.right h (more b e1).is) in
     let v = tree_at t1 c.in-Some.p in
     let w = tree_at t2 c.in-Some-2.q in
-    let made = ruled (λ z. IsIdOf c.rule_term.new.table z c.in_ok-proof-in-Add.proof) 57 (λ i. (more a x2).is i ∷ (more b x2).is i ∷ e2.same c.in-Some.p first.0 i ∷ w ∷ []) c.in_ok-proof-in-Add.ensures.id in
+    let made = ruled (λ z. IsIdOf c.rule_term.new.table z c.in_ok-proof-in-Add.proof) ADD_AL (λ i. (more a x2).is i ∷ (more b x2).is i ∷ e2.same c.in-Some.p first.0 i ∷ w ∷ []) c.in_ok-proof-in-Add.ensures.id in
     let is : x ≡ EOp Add p.left p.right = p.is ∙ ap (λ (o : Op). EOp o p.left p.right) c.in-Add.is in
     (made.known, ap (alignment_proof Γ) is ∙ sum_some Γ p.left p.right v w first.1 second.1 ∙ ap Some (sym made.is))

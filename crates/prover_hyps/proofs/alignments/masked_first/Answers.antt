@@ -3,6 +3,7 @@ use Rattle.word_ops.specs.declared.Op.TheVariants.{Band}
 use Rattle.word_ops.specs.declared.Rel.TheVariants.{Eq}
 use Rattle.lf_signature.specs.Nodes.{IsIdOf}
 use Rattle.lf_signature.specs.Terms.{op_term}
+use Rattle.lf_signature.specs.declared.numbers.TheConstants.{AND_ASSOC}
 use Rattle.formula_tree.specs.Formulas.{EVar, EOp, FRel}
 use Rattle.term_table.specs.Tree.{Tree}
 use Rattle.lf_terms.specs.Encoding.{exp_encoding}
@@ -25,7 +26,7 @@ returns-clause-is c = λ x y s i e qx qy qs qi qe.
     let whole = stands t (exp_encoding e) c.args.whole c.requires.whole qe in
     let to0 = subst (λ z. IsIdOf c.oper.new.table z c.in_ok-to.to) (λ j. op_term Band (qx j) (qi j)) c.in_ok-to.ensures.id in
     let to = more to0 (twice (twice e2 e3) e4) in
-    let equal = more (ruled (λ z. IsIdOf c.rule_term.new.table z c.in_ok-equal.equal) 52 (λ j. (more a e1).is j ∷ (more word e1).is j ∷ (more seven e1).is j ∷ []) c.in_ok-equal.ensures.id) (twice e3 e4) in
+    let equal = more (ruled (λ z. IsIdOf c.rule_term.new.table z c.in_ok-equal.equal) AND_ASSOC (λ j. (more a e1).is j ∷ (more word e1).is j ∷ (more seven e1).is j ∷ []) c.in_ok-equal.ensures.id) (twice e3 e4) in
     let itself = more (c.in_ok-itself.ensures.is e (more whole x2).is) e4 in
     let form = c.in_ok-form.ensures.is e (more whole x3).is in
     moved_to (λ (z : Tree). IsIdOf c.moved.new.table z c.in_ok-proof.proof) c.in_ok-proof.ensures.is (FRel Eq (up e) (EVar 0)) e (EOp Band x i) form (more whole (twice x3 e4)) to equal itself

@@ -1,7 +1,7 @@
 use Rattle.std.proofs.Common.{◌≡◌, ℕ, List, length, map, sym, ◌∙◌, ap, subst}
 use Rattle.alpha_cfg.specs.Cuts.{AreFlags}
 use Rattle.term_table.specs.Table.{id_trees}
-use Rattle.lf_signature.specs.declared.WordSignature.TheVariants.{Sigma3}
+use Rattle.lf_signature.specs.declared.editions.WordSignature.TheVariants.{Sigma3}
 use Rattle.proof_container.specs.Versions.{signature_of}
 use Rattle.vcgen.specs.Answers.{AreLowInvs}
 use Rattle.vcgen.specs.Encoded.{AreForms}

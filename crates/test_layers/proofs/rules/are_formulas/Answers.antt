@@ -1,6 +1,6 @@
 use Rattle.std.proofs.Common.{◌∙◌, sym, refl}
 use Rattle.lf_signature.specs.Constants.{declared}
-use Rattle.lf_signature.specs.declared.WordSignature.TheVariants.{Sigma3}
+use Rattle.lf_signature.specs.declared.editions.WordSignature.TheVariants.{Sigma3}
 use Rattle.test_layers.proofs.rules.are_formulas.Goals as goal
 
 pub first_failing-requires-clause-kept : goal.first_failing-requires-clause-kept

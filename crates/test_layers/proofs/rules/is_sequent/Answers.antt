@@ -3,7 +3,7 @@ use Rattle.term_table.specs.Table.{IsKnown, AllKnown, tree_at, ctx_of, Extends}
 use Rattle.lf_signature.specs.Terms.{pf}
 use Rattle.lf_signature.specs.Typing.{Checks}
 use Rattle.lf_signature.specs.Constants.{declared}
-use Rattle.lf_signature.specs.declared.WordSignature.TheVariants.{Sigma3}
+use Rattle.lf_signature.specs.declared.editions.WordSignature.TheVariants.{Sigma3}
 use Rattle.lf_lemmas.specs.Lemmas.{formulas_of, with_lemmas}
 use Rattle.lf_lemmas.specs.Tables.{lemmas_in}
 use Rattle.lf_lemmas.specs.Laws.Lawful.{lemmas_same, proved_hold}

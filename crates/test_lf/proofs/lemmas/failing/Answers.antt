@@ -1,5 +1,5 @@
 use Rattle.lf_signature.specs.Constants.{declared}
-use Rattle.lf_signature.specs.declared.WordSignature.TheVariants.{Sigma2}
+use Rattle.lf_signature.specs.declared.editions.WordSignature.TheVariants.{Sigma2}
 use Rattle.test_lf.proofs.lemmas.failing.Goals as goal
 
 pub first_failing-requires-clause-kept : goal.first_failing-requires-clause-kept

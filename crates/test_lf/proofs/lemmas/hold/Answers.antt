@@ -1,6 +1,6 @@
 use Rattle.std.proofs.Common.{◌≡◌, None, refl, rules, sym, ◌∙◌}
 use Rattle.lf_signature.specs.Constants.{declared}
-use Rattle.lf_signature.specs.declared.WordSignature.TheVariants.{Sigma2}
+use Rattle.lf_signature.specs.declared.editions.WordSignature.TheVariants.{Sigma2}
 use Rattle.test_lf.proofs.lemmas.hold.Goals as goal
 
 pub first_failing-requires-clause-kept : goal.first_failing-requires-clause-kept

@@ -1,6 +1,6 @@
 use Rattle.std.proofs.Common.{refl}
 use Rattle.lf_signature.specs.Constants.{declared}
-use Rattle.lf_signature.specs.declared.WordSignature.TheVariants.{Sigma2}
+use Rattle.lf_signature.specs.declared.editions.WordSignature.TheVariants.{Sigma2}
 use Rattle.lf_check.proofs.Rows.{kept-more}
 use Rattle.lf_lemmas.specs.Lemmas.{formulas_of, with_lemmas}
 use Rattle.lf_lemmas.specs.Tables.{lemmas_in, HoldsLemmas}

@@ -1,7 +1,7 @@
 use Rattle.std.proofs.Common.{◌≡◌, ℕ, false, Option, Some, None, refl, sym, ◌∙◌}
 use Rattle.std.specs.Option.{is_some}
 use Rattle.lf_signature.specs.Constants.{declared}
-use Rattle.lf_signature.specs.declared.WordSignature.TheVariants.{Sigma2}
+use Rattle.lf_signature.specs.declared.editions.WordSignature.TheVariants.{Sigma2}
 use Rattle.lf_lemmas.proofs.WordLemmas.{words_admit}
 use Rattle.test_lf.proofs.lemmas.unproved.Goals as goal
 

@@ -18,6 +18,12 @@ use Rattle.view_container.specs.Answers.{IsReason, Finds}
 use Rattle.view_container.proofs.Stages.{are-forms, source-rest, reason-first, carried}
 use Rattle.view_container.proofs.listing.source_of.Goals as goal
 
+pub formed-requires-clause-known : goal.formed-requires-clause-known
+formed-requires-clause-known c =
+    let t = c.args.container.table in
+    subst (λ (l : List (ℕ × ℕ)). AllByRecursion (λ (inv : ℕ × ℕ). IsKnown t inv.1) l)
+    (sym c.deref.ensures.value) c.requires.canonical.known.0
+
 pub short_forms-requires-clause-sizes : goal.short_forms-requires-clause-sizes
 short_forms-requires-clause-sizes c = c.deref-2.ensures.value ∙ c.in_ok-sizes.ensures.exact
 

@@ -4,7 +4,7 @@ use Rattle.term_table.specs.Table.{id_trees}
 use Rattle.vcgen.specs.Answers.{AreLowInvs}
 use Rattle.vcgen.specs.Encoded.{AreForms, annotated}
 use Rattle.vcgen.proofs.Encodings.{forms-wider}
-use Rattle.lf_signature.specs.declared.WordSignature.TheVariants.{Sigma3}
+use Rattle.lf_signature.specs.Constants.{Longest}
 use Rattle.proof_container.specs.Versions.{signature_of}
 use Rattle.pcc_gate.specs.First.{formulas}
 use Rattle.pcc_gate.proofs.Refusing.{keys}
@@ -22,7 +22,7 @@ parts_of-requires-clause-invs c =
 pub parts_of-requires-clause-forms : goal.parts_of-requires-clause-forms
 parts_of-requires-clause-forms c =
     let k = c.args.passed.container in
-    subst (λ l. AreForms Sigma3 k.bound (id_trees k.table l)) (sym c.deref.ensures.value)
+    subst (λ l. AreForms Longest k.bound (id_trees k.table l)) (sym c.deref.ensures.value)
     (forms-wider (signature_of k.version) k.bound (id_trees k.table k.invs.items)
     c.requires.passes.forms)
 

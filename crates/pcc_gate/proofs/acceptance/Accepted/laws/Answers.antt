@@ -1,7 +1,7 @@
 use Rattle.std.proofs.Common.{subst}
 use Rattle.term_table.specs.Table.{id_trees}
 use Rattle.vcgen.specs.Encoded.{AreForms}
-use Rattle.lf_signature.specs.declared.WordSignature.TheVariants.{Sigma3}
+use Rattle.lf_signature.specs.Constants.{Longest}
 use Rattle.vcgen.proofs.Encodings.{encoded-annotates}
 use Rattle.pcc_gate.specs.Safe.{ReturnsInBound}
 use Rattle.pcc_gate.specs.Views.{AcceptedView, IsConditionTrue, AreAnnotations}
@@ -9,7 +9,7 @@ use Rattle.pcc_gate.proofs.acceptance.Accepted.laws.Goals as goal
 
 pub returns-clause-forms : goal.returns-clause-forms
 returns-clause-forms c =
-    subst (λ (v : AcceptedView). AreForms Sigma3 v.bound (id_trees v.table v.invs)) c.self.view_is
+    subst (λ (v : AcceptedView). AreForms Longest v.bound (id_trees v.table v.invs)) c.self.view_is
     c.self.invariant.forms
 
 pub returns-clause-returns : goal.returns-clause-returns
