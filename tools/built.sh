@@ -1,5 +1,6 @@
-# Sourced by pcc, pcc_view, tools/build and tools/install: where the repository is, and whether a program, or the library
-# for C, is proved and current. It starts one process, `find`, so a command that is built costs little more than itself.
+# Sourced by the programs' scripts, tools/build and tools/install: where the repository is, and whether a program, or the
+# library for C, is proved and current. It starts one process, `find`, so a command that is built costs little more than
+# itself.
 
 # Sets `top`, the repository's folder, from the path of a script that is in it or in its tools/. Follows links; starts
 # a process only for a link.
@@ -11,13 +12,14 @@ find_top() { # SELF
   [ -f "$top/crates.txt" ] || top=${top%/*}
 }
 
-# Sets `program`, `crate` and `binary` for pcc or pcc_view. Needs `top`.
-set_program() { # pcc|pcc_view
+# Sets `program`, `crate` and `binary` for a program. Needs `top`.
+set_program() { # pcc|pcc_view|pcc_native
   program=$1
   case $program in
     pcc) crate=pcc_main ;;
     pcc_view) crate=view_main ;;
-    *) echo "$program is no program of this repository: give pcc or pcc_view" >&2; return 2 ;;
+    pcc_native) crate=native_main ;;
+    *) echo "$program is no program of this repository: give pcc, pcc_view or pcc_native" >&2; return 2 ;;
   esac
   binary=$top/crates/$crate/out/$crate
 }
@@ -86,7 +88,7 @@ has_library() {
 }
 
 # Runs a program with the words given: the proved one if it is current, else the sources without proofs.
-run_program() { # SELF pcc|pcc_view WORD..
+run_program() { # SELF pcc|pcc_view|pcc_native WORD..
   find_top "$1"
   set_program "$2" || exit
   shift 2

@@ -1,7 +1,8 @@
 """The forms of the programs' command lines, for man pages and completions: see tools/manual.
 
 docs/FORMATS.md has pcc's forms, in the first block below "Command line". The help text of pcc_view has its own, with a
-text for each command. share/words.tsv has the texts of pcc's commands and of the flags.
+text for each command, and that of pcc_native has its one form. share/words.tsv has the texts of pcc's commands and of
+the flags.
 """
 import os
 import re
@@ -10,6 +11,7 @@ from typing import Dict, List, NamedTuple, Optional, Tuple
 TOP = os.path.dirname(os.path.dirname(os.path.abspath(__file__)))
 POLICIES = ["filter", "tag", "table"]
 HELP_SOURCE = "crates/view_cli/src/texts.rt"
+NATIVE_HELP_SOURCE = "crates/native_cli/src/texts.rt"
 FLAG = re.compile(r"\[(--[a-z0-9-]+)(?: ([A-Z]+))?\]")  # as a form has it
 
 
@@ -18,7 +20,7 @@ class Fault(Exception):
 
 
 class Command(NamedTuple):
-    """A command of a program."""
+    """A command of a program; the only one of a program has no name."""
 
     name: str
     forms: List[str]  # what follows the program's name, a line each
@@ -83,12 +85,12 @@ def words(of: str) -> Dict[str, str]:
     return {row[1]: row[2] for row in rows if row[0] == of}
 
 
-def help_text() -> str:
-    """Returns the text of `pcc_view --help`, from the literal in its source."""
-    source = read(HELP_SOURCE).partition("fn print_help")[2]
+def help_text(path: str = HELP_SOURCE) -> str:
+    """Returns the text of a program's `--help`, from the literal in its source."""
+    source = read(path).partition("fn print_help")[2]
     literal = re.search(r'b"((?:[^"\\]|\\.)*)"', source, re.S)
     if not literal:
-        raise Fault(HELP_SOURCE + ": print_help has no byte string")
+        raise Fault(path + ": print_help has no byte string")
     joined = re.sub(r"\\\n\s*", "", literal[1])
     return joined.encode().decode("unicode_escape")
 
@@ -140,7 +142,18 @@ def pcc_view() -> Program:
     return Program("pcc_view", commands, words("pcc_view"), examples)
 
 
-PROGRAMS = {"pcc": pcc, "pcc_view": pcc_view}
+def pcc_native() -> Program:
+    """Returns pcc_native's only command, which has no name, by its help."""
+    text = help_text(NATIVE_HELP_SOURCE)
+    lines = [line[len("pcc_native "):] for line in text.splitlines() if line.startswith("pcc_native ")]
+    forms = [line for line in lines if line.startswith("POLICY ")]
+    examples = ["pcc_native " + line for line in lines if re.match(r"[a-z@]+ \S*/", line)]
+    if len(forms) != 1:
+        raise Fault(NATIVE_HELP_SOURCE + ": print_help has to have one line `pcc_native POLICY ..`")
+    return Program("pcc_native", [Command("", forms, "", "@NAME" in text)], words("pcc_native"), examples)
+
+
+PROGRAMS = {"pcc": pcc, "pcc_native": pcc_native, "pcc_view": pcc_view}
 
 
 def programs() -> List[Program]:

@@ -1,12 +1,14 @@
-//! Test runner for `pcc` and `pcc_view`, over files and output in memory.
+//! Test runner for `pcc`, `pcc_view` and `pcc_native`, over files and output in memory.
 //!
 //! The arguments name files of the current folder. A file whose name ends in `.rows` is run; any
 //! other file is hexadecimal text, whose bytes are the file of that name for every later row. Rows
-//! in files whose names begin with `view-` are for `pcc_view`, the others for `pcc`.
+//! in files whose names begin with `view-` are for `pcc_view`, with `native-` for `pcc_native`, and
+//! the others for `pcc`.
 #![tactic(auto)]
 
 use anyhow::Result;
 use file_port::{MemFiles, MemSink};
+use native_cli::pcc_native;
 use pcc_cli::pcc;
 use std::alloc::Global;
 use std::{env, fs};
@@ -18,6 +20,7 @@ use view_cli::pcc_view;
 enum Command {
     Pcc,
     View,
+    Native,
 }
 
 impl Command {
@@ -25,6 +28,8 @@ impl Command {
     fn of_file(name: &str) -> Command {
         if name.starts_with("view-") {
             Command::View
+        } else if name.starts_with("native-") {
+            Command::Native
         } else {
             Command::Pcc
         }
@@ -42,6 +47,7 @@ impl Program for Command {
         match self {
             Command::Pcc => pcc(alloc, words, files, out),
             Command::View => pcc_view(alloc, words, files, out),
+            Command::Native => pcc_native(alloc, words, files, out),
         }
     }
 }

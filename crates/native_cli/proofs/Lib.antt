@@ -1,0 +1,8 @@
+mod PolicyCalls
+mod Reading
+mod Translators
+mod Making
+mod Running
+mod Suited
+mod Splitting
+mod Written
