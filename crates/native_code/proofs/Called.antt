@@ -1,9 +1,10 @@
 -- A call comes to the first block, in agreement.
-use Rattle.std.proofs.Common.{◌≡◌, ◌≢◌, ◌⊎◌, ℕ, zero, suc, ◌+◌, ◌^◌, ◌<◌, ◌≤◌, Bool, true, false, cond, List, [], ◌∷◌, ◌++◌, length, slice_get, slice_index}
-use Rattle.std.proofs.Common.{refl, sym, ap, ◌∙◌, subst, arith, inl, inr}
+use Rattle.std.proofs.Common.{◌≡◌, ◌≢◌, ◌⊎◌, ℕ, zero, suc, ◌+◌, ◌^◌, ◌<◌, ◌≤◌, Bool, true, false, cond, List, [], ◌∷◌, ◌++◌, length, slice_index}
+use Rattle.std.proofs.Common.{length-append, refl, sym, ap, ◌∙◌, subst, arith, inl, inr}
 use Rattle.std.proofs.lemmas.Bool.{cases_eq, ne_eqb}
 use Rattle.std.proofs.lemmas.List.{append_assoc, append-nil}
 use Rattle.alpha_words.specs.declared.insn.Insn.{Insn}
+use Rattle.alpha_cfg.specs.Flow.{IsCode}
 use Rattle.alpha_cfg.specs.Machine.{State, IsState}
 use Rattle.x86_words.specs.declared.insn.X86Insn.{X86Insn}
 use Rattle.x86_words.specs.declared.insn.X86Insn.TheVariants.{Mov, MovZero, Store}
@@ -15,15 +16,17 @@ use Rattle.native_steps.specs.Sequences.{keep_place}
 use Rattle.native_steps.specs.Straight.{IsStraight}
 use Rattle.native_steps.specs.Agreement.{Call, IsLent, Agrees}
 use Rattle.native_steps.proofs.Straights.{Runs, none-run, then-run, both-run}
-use Rattle.native_steps.proofs.Frames.{wrote, wrote-is, wrote-reads, wrote-other, free-below, isnt}
+use Rattle.native_steps.proofs.Frames.{wrote, wrote-is, wrote-reads, wrote-other, agrees-same, free-below, isnt}
 use Rattle.native_steps.proofs.Encodable.{Straight, no-insn, one-straight, then-straight, both-straight, straight, slot-fits, keep_place-straight}
 use Rattle.native_code.specs.Blocks.{save_place, enter, clear, entry_code, for_registers, is_argument, RDX, RSI, RDI}
 use Rattle.native_code.specs.declared.insn.NativeInsn.{NativeInsn}
-use Rattle.native_code.specs.Blocks.{plain, block_at, front_code}
-use Rattle.native_code.specs.Layout.{offset_of, native_text}
+use Rattle.native_code.specs.Blocks.{plain}
+use Rattle.native_code.specs.Layout.{code_length, placed_from, front_code, offset_of, native_text}
 use Rattle.native_code.specs.Calls.{IsCall, AgreesAt, Called}
-use Rattle.native_code.proofs.Texts.{plain-length, Lies, entry-lies}
-use Rattle.native_code.proofs.Reaching.{Reaches, reach-straight, reached}
+use Rattle.native_code.proofs.Texts.{plain-length, length-append-code, Lies, entry-lies, part-lies, block, pad, gap}
+use Rattle.native_code.proofs.Reaching.{Reaches, reach-both, reach-straight, reached}
+use Rattle.native_code.proofs.Fitting.{plain-count, offset-small}
+use Rattle.native_code.proofs.Passing.{Passes, passes}
 use Rattle.native_code.proofs.Entering.{Partly, partly-as, partly-all, With, Enters, entered}
 
 -- a register with an argument
@@ -277,45 +280,84 @@ module _ (p : Places) (call : Call) (s : State) (places : ArePlaces p) (lent : I
 
 -- ---- in the text
 
--- what stands in front begins with the entry
-record BeginsWithEntry (p : Places) (metered : Bool) (code : List Insn) (n : ℕ) : Type 0 where
-  rest : List NativeInsn
-  whole : front_code p metered code n ≡ plain (entry_code p) ++ rest
+module _ (p : Places) (metered : Bool) (code : List Insn) where
+  abbrev entry : List NativeInsn
+  entry = plain (entry_code p)
 
-front-begins : (p : Places) (metered : Bool) (code : List Insn) (n : ℕ) → BeginsWithEntry p metered code n
-front-begins p metered code zero = record { rest = []; whole = sym (append-nil (plain (entry_code p))) }
-front-begins p metered code (suc n) =
-    let b = front-begins p metered code n in
-    let next : List NativeInsn = block_at p metered code n (slice_get code n) in
-    record { rest = b.rest ++ next; whole = ap (λ l. l ++ next) b.whole ∙ append_assoc (plain (entry_code p)) b.rest next }
+  -- the padding behind the entry
+  abbrev entry_pad : List NativeInsn
+  entry_pad = pad p metered code 0 (code_length entry)
 
--- as many steps as the entry has instructions lead to the first block
-pub record Entered (p : Places) (metered : Bool) (code : List Insn) (call : Call) (s : State) (x : X86) : Type 0 where
-  pub end : X86
-  pub reaches : Reaches (native_text p metered code) (length (entry_code p)) x end
-  pub agrees : AgreesAt p metered code call s end
+  -- what stands in front begins with the entry
+  record BeginsWithEntry (n : ℕ) : Type 0 where
+    rest : List NativeInsn
+    whole : front_code p metered code n ≡ entry ++ (entry_pad ++ rest)
 
-pub begins : (p : Places) (metered : Bool) (code : List Insn) (call : Call) (s : State) (x : X86) → ArePlaces p → IsState s → IsLent call s.rights →
-    IsCall call s x →
+  front-begins : (n : ℕ) → BeginsWithEntry n
+  front-begins zero = record { rest = []; whole = ap (λ l. entry ++ l) (sym (append-nil entry_pad)) }
+  front-begins (suc n) =
+      let b = front-begins n in
+      let next : List NativeInsn = block p metered code n ++ gap p metered code n in
+      record {
+        rest = b.rest ++ next;
+        whole =
+            append_assoc (front_code p metered code n) (block p metered code n) (gap p metered code n) ∙ ap (λ l. l ++ next) b.whole
+            ∙ append_assoc entry (entry_pad ++ b.rest) next ∙ ap (λ l. entry ++ l) (append_assoc entry_pad b.rest next);
+      }
+
+  -- the first block begins after the padding
+  pub first-is : offset_of p metered code 0 ≡ code_length entry + code_length entry_pad
+  first-is = length-append-code entry entry_pad
+
+  -- no more steps than the entry and its padding have instructions lead to the first block
+  pub record Entered (call : Call) (s : State) (x : X86) : Type 0 where
+    pub count : ℕ
+    pub few : count ≤ length (front_code p metered code 0)
+    pub brief : count ≤ length (entry_code p) + 1
+    pub end : X86
+    pub reaches : Reaches (native_text p metered code) count x end
+    pub agrees : AgreesAt p metered code call s end
+
+pub begins : (p : Places) (metered : Bool) (code : List Insn) (call : Call) (s : State) (x : X86) → IsCode code → ArePlaces p → IsState s →
+    IsLent call s.rights → IsCall call s x →
     Entered p metered code call s x
-begins p metered code call s x places state lent h =
+begins p metered code call s x ok places state lent h =
     let b = front-begins p metered code (suc (length code)) in
     let text : List ℕ = native_text p metered code in
+    let start : ℕ = code_length (plain (entry_code p)) in
+    let behind : List NativeInsn = pad p metered code 0 start in
     let e = entry-runs p call s places lent x state h in
     let lies : Lies text x.at (entry_code p) =
-    subst (λ n. Lies text n (entry_code p)) (sym h.at) (entry-lies p metered code b.rest (entry_code p) b.whole) in
-    let first : e.end.at ≡ offset_of p metered code 0 =
+    subst (λ n. Lies text n (entry_code p)) (sym h.at) (entry-lies p metered code (behind ++ b.rest) (entry_code p) b.whole) in
+    let to-end = reach-straight text (entry_code p) x e.end lies (entry-straight p call s places lent) e.runs.runs in
+    let place : e.end.at ≡ start =
     let a = e.runs.at in
     let z = h.at in
     let n = plain-length (entry_code p) in
     omega (arith, a, z, n) in
+    let first = first-is p metered code in
+    let small = offset-small p places metered code 0 ok (omega arith) in
+    let same = ap (λ k. code_length (pad p metered code 0 k)) place in
+    let g : Passes p places metered code ok 0 (length behind) e.end =
+    subst (λ k. Passes p places metered code ok 0 (length (pad p metered code 0 k)) e.end) place
+    (passes p places metered code ok 0 e.end e.agrees.machine (omega arith) (omega (arith, place, first, small))
+    (subst (λ k. Lies text k (placed_from (offset_of p metered code) k (pad p metered code 0 k))) (sym place)
+    (part-lies p metered code (plain (entry_code p)) behind b.rest start b.whole refl))
+    (omega (arith, place, first, same))) in
+    let few = g.few in
+    let brief = g.brief in
+    let sizes = length-append (plain (entry_code p)) behind in
+    let plainly = plain-count (entry_code p) in
     record {
-      end = e.end;
-      reaches = reach-straight text (entry_code p) x e.end lies (entry-straight p call s places lent) e.runs.runs;
-      agrees = record { at = first ∙ ap (offset_of p metered code) (sym h.start); agrees = e.agrees };
+      count = length (entry_code p) + g.count;
+      few = omega (arith, few, sizes, plainly);
+      brief = omega (arith, brief);
+      end = g.end;
+      reaches = reach-both text x e.end g.end to-end g.reaches;
+      agrees = record { at = g.at ∙ ap (offset_of p metered code) (sym h.start); agrees = agrees-same p call s e.end g.end places e.agrees g.same };
     }
 
 pub called : Called
 called = λ p metered code call s x is of state lent h.
-    let e = begins p metered code call s x of.places state lent h in
-    record { count = length (entry_code p); end = e.end; runs = reached (native_text p metered code) x e.end e.reaches; agrees = e.agrees }
+    let e = begins p metered code call s x is of.places state lent h in
+    record { count = e.count; end = e.end; runs = reached (native_text p metered code) x e.end e.reaches; agrees = e.agrees }

@@ -1,5 +1,5 @@
 -- Calls that may be made are never stuck, and end in time.
-use Rattle.std.proofs.Common.{◌≡◌, ◌⊎◌, ℕ, zero, suc, ◌+◌, ◌-◌, ◌*◌, ◌<◌, ◌≤◌, Bool, true, false, cond, ◌&&◌, List, [], ◌∷◌, length, slice_get}
+use Rattle.std.proofs.Common.{◌≡◌, ◌⊎◌, ℕ, zero, suc, ◌+◌, ◌-◌, ◌*◌, ◌<◌, ◌≤◌, Bool, true, false, cond, ◌&&◌, List, [], ◌∷◌, ◌++◌, length, slice_get}
 use Rattle.std.proofs.Common.{slice_index, Option, Some, None, length-append, refl, sym, ap, ◌∙◌, subst, arith, inl, inr}
 use Rattle.std.proofs.lemmas.Bool.{cases_lt, cases_Bool}
 use Rattle.std.proofs.lemmas.Option.{slice_get_within, slice_get_past}
@@ -22,11 +22,11 @@ use Rattle.native_steps.specs.Places.{Places}
 use Rattle.native_steps.specs.Agreement.{Call, IsLent}
 use Rattle.native_code.specs.declared.insn.NativeInsn.{NativeInsn}
 use Rattle.native_code.specs.Heads.{is_loop_head, if_moved, arrivals, fuel_of}
-use Rattle.native_code.specs.Blocks.{plain, entry_code, spent_code, front_code, block_at, whole_code, RDX}
-use Rattle.native_code.specs.Layout.{native_length, placed_from, offset_of, native_insns, native_text}
+use Rattle.native_code.specs.Blocks.{plain, spent_code, block_at, RDX}
+use Rattle.native_code.specs.Layout.{native_length, placed_from, front_code, whole_code, offset_of, native_insns, native_text}
 use Rattle.native_code.specs.Calls.{ArePlacesOf, spend, IsCallEnd, AgreesAt}
 use Rattle.native_code.specs.Ends.{IsAllowedRun, IsSafeCall, ReturnsAs, RunsOut, IsSafeEnd, SafeCalls, LeavesWithin, EndingCalls, ReturningCalls}
-use Rattle.native_code.proofs.Texts.{block}
+use Rattle.native_code.proofs.Texts.{block, gap}
 use Rattle.native_code.proofs.Heading.{heads}
 use Rattle.native_code.proofs.Reaching.{Reaches, reached}
 use Rattle.native_code.proofs.Fitting.{plain-count, entry-count}
@@ -255,7 +255,7 @@ module _ (p : Places) (metered : Bool) (code : List Insn) (ok : IsCode code) (of
 
 pub safe : SafeCalls
 safe = λ p metered code call s x h n.
-    let e = begins p metered code call s x h.places.places h.state h.lent h.begins in
+    let e = begins p metered code call s x h.is_code h.places.places h.state h.lent h.begins in
     from-reached n (native_text p metered code) x e.end (IsSafeEnd metered code call s) e.reaches (λ z. tt)
     (λ k sum. safe-all p metered code h.is_code h.places k k (omega arith) call s e.end h.state h.lent e.agrees h.allowed)
 
@@ -273,8 +273,10 @@ module _ (p : Places) (metered : Bool) (code : List Insn) where
   abbrev before : ℕ → ℕ
   before k = length (front_code p metered code k)
 
-  before-next : (k : ℕ) → before (suc k) ≡ before k + length (block p metered code k)
-  before-next k = length-append (front_code p metered code k) (block p metered code k)
+  before-next : (k : ℕ) → before (suc k) ≡ before k + length (block p metered code k) + length (gap p metered code k)
+  before-next k =
+      length-append (front_code p metered code k ++ block p metered code k) (gap p metered code k)
+      ∙ ap (λ n. n + length (gap p metered code k)) (length-append (front_code p metered code k) (block p metered code k))
 
   before-later : (n k : ℕ) → k ≤ n → before k ≤ before n
   before-later zero k h = let none : k ≡ 0 = omega (arith, h) in let same : before k ≡ before 0 = ap before none in omega (arith, same)
@@ -287,7 +289,7 @@ module _ (p : Places) (metered : Bool) (code : List Insn) where
   abbrev all : ℕ
   all = length (native_insns p metered code)
 
-  all-is : all ≡ before (length code) + length (spent_code p)
+  all-is : before (length code) + length (spent_code p) ≤ all
   all-is =
       let n : ℕ = length code in
       let none : slice_get code n ≡ None = slice_get_past code n (omega arith) in
@@ -296,9 +298,6 @@ module _ (p : Places) (metered : Bool) (code : List Insn) where
       let next = before-next n in
       let whole : all ≡ before (suc n) = placed-count (offset_of p metered code) 0 (whole_code p metered code) in
       omega (arith, last, same, next, whole)
-
-  begin-is : before 0 ≡ length (entry_code p)
-  begin-is = plain-count (entry_code p)
 
 -- ---- so many steps at most
 
@@ -351,7 +350,7 @@ module _ (p : Places) (code : List Insn) (ok : IsCode code) (of : ArePlacesOf p 
       unit = cond head 1 0
 
       abbrev here_size : ℕ
-      here_size = length (block p true code s.index)
+      here_size = length (block p true code s.index) + length (gap p true code s.index)
 
       inside : s.index < length code
       inside = slice_get_within code s.index insn here
@@ -491,20 +490,20 @@ module _ (p : Places) (code : List Insn) (call : Call) (s : State) (x : X86) (h 
 
     out-to : (n : ℕ) → call.fuel < arrivals code n s → slice_index l.end.regs RDX ≡ 1
     out-to n more =
-        let e = begins p true code call s x h.places.places h.state h.lent h.begins in
+        let e = begins p true code call s x h.is_code h.places.places h.state h.lent h.begins in
         let v = (spends p code call n s e.end h.is_code h.places h.state h.lent e.agrees more).2 in
-        let left : x86_run (native_text p true code) (length (entry_code p) + v.count) x ≡ (outcomes.Left, v.end) = e.reaches.runs v.count ∙ v.left in
-        let same : v.end ≡ l.end = one-end l.count (length (entry_code p) + v.count) (native_text p true code) x l.end v.end l.left left in
+        let left : x86_run (native_text p true code) (e.count + v.count) x ≡ (outcomes.Left, v.end) = e.reaches.runs v.count ∙ v.left in
+        let same : v.end ≡ l.end = one-end l.count (e.count + v.count) (native_text p true code) x l.end v.end l.left left in
         ap (λ (y : X86). slice_index y.regs RDX) (sym same) ∙ v.returns.why_is
 
 pub ends-in-time : EndingCalls
 ends-in-time = λ p code call s x h.
-    let e = begins p true code call s x h.places.places h.state h.lent h.begins in
+    let e = begins p true code call s x h.is_code h.places.places h.state h.lent h.begins in
     let w : ℕ = all p true code in
     let a : ℕ = call.fuel + 1 in
     let first : ℕ = before p true code 0 in
     let at_start : before p true code s.index ≡ first = ap (before p true code) h.begins.start in
-    let entry = begin-is p true code in
+    let entry = e.few in
     let low = before-later p true code (length code) 0 (omega arith) in
     let sum = all-is p true code in
     let most = not-unit (is_loop_head code s.index) in
@@ -535,29 +534,29 @@ module _ (p : Places) (code : List Insn) (ok : IsCode code) (of : ArePlacesOf p 
   AllReturn n =
       (call : Call) (s t : State) (x : X86) (word : ℕ) → IsState s → IsLent call s.rights → AgreesAt p false code call s x →
       run_of code n s ≡ (ends.Returned word, t) →
-      LeavesWithin plain_text (10 * n + 28) x
+      LeavesWithin plain_text (10 * n + 26) x
 
   module _ (n : ℕ) (rest : AllReturn n) (call : Call) (s t : State) (x : X86) (word : ℕ) (state : IsState s) (lent : IsLent call s.rights)
       (agrees : AgreesAt p false code call s x) (run : run_of code (suc n) s ≡ (ends.Returned word, t))
     where
       return-by : (insn : Insn) → slice_get code s.index ≡ Some insn → (q : Step × State) → insn_outcome insn s ≡ q →
-          LeavesWithin plain_text (10 * suc n + 28) x
+          LeavesWithin plain_text (10 * suc n + 26) x
       return-by insn here (moves.Moved, u) e =
           let r = steps-on p false code ok of call s x state lent agrees insn here u (omega arith) e in
           let brief = r.brief in
-          leave-later plain_text x r.end (10 * n + 28) (10 * suc n + 28) r.reaches (omega (arith, brief))
+          leave-later plain_text x r.end (10 * n + 26) (10 * suc n + 26) r.reaches (omega (arith, brief))
           (rest (spend call 0) u t r.end word (state-after p false code ok of call s x state lent agrees insn here u e)
           (lent-after p false code ok of call s x state lent agrees insn here (call.fuel - 0) u e) r.agrees_then
           (sym (stepped code s insn here (moves.Moved, u) e n) ∙ run))
       return-by insn here (moves.Returned, u) e =
           let r = ends-so p false code ok of call s x state lent agrees insn here u (omega arith) e in
           let brief = r.brief in
-          leaves-less p false code ok of call (slice_index u.regs 0) 0 r.most (10 * suc n + 28) u x (omega (arith, brief)) r.leaves
+          leaves-less p false code ok of call (slice_index u.regs 0) 0 r.most (10 * suc n + 26) u x (omega (arith, brief)) r.leaves
       return-by insn here (moves.Blocked index kind addr, u) e =
           let wrong : ends.Blocked index kind addr ≡ ends.Returned word =
           ap (λ (q : Outcome × State). q.0) (sym (stepped code s insn here (moves.Blocked index kind addr, u) e n) ∙ run) in absurd cc
 
-      return-at : (o : Option Insn) → slice_get code s.index ≡ o → LeavesWithin plain_text (10 * suc n + 28) x
+      return-at : (o : Option Insn) → slice_get code s.index ≡ o → LeavesWithin plain_text (10 * suc n + 26) x
       return-at None here =
           let none : run_of code (suc n) s ≡ (ends.Blocked s.index kinds.Load 0, s) =
           ap (λ (o : Option Insn). let q = step_at o s in ends_with q.0 q.1 (run_of code n q.1)) here in
@@ -575,7 +574,8 @@ module _ (p : Places) (code : List Insn) (ok : IsCode code) (of : ArePlacesOf p 
 
 pub returns-in-time : ReturningCalls
 returns-in-time = λ p code call s t x n word h run.
-    let e = begins p false code call s x h.places.places h.state h.lent h.begins in
+    let e = begins p false code call s x h.is_code h.places.places h.state h.lent h.begins in
     let l = return-all p code h.is_code h.places n call s t e.end word h.state h.lent e.agrees run in
     let entry = entry-count p h.places.places in
-    leave-later (native_text p false code) x e.end (10 * n + 28) (10 * n + 100) e.reaches (omega (arith, entry)) l
+    let brief = e.brief in
+    leave-later (native_text p false code) x e.end (10 * n + 26) (10 * n + 100) e.reaches (omega (arith, entry, brief)) l

@@ -1,19 +1,28 @@
 -- Native code is short, so each displacement fits.
-use Rattle.std.proofs.Common.{◌≡◌, ℕ, zero, suc, ◌+◌, ◌*◌, ◌^◌, ◌<◌, ◌≤◌, Bool, true, false, cond, ◌&&◌, eqb, List, [], ◌∷◌, ◌++◌}
-use Rattle.std.proofs.Common.{nat_le, length, slice_get, Option, Some, None, refl, ap}
+use Rattle.std.proofs.Common.{◌≡◌, ℕ, zero, suc, ◌+◌, ◌-◌, ◌*◌, ◌%◌, ◌^◌, ◌<◌, ◌≤◌, Bool, true, false, cond, ◌&&◌, ◌==◌, eqb, replicate, List, [], ◌∷◌, ◌++◌}
+use Rattle.std.proofs.Common.{length, slice_get, Option, Some, None, refl, ap}
 use Rattle.std.proofs.Common.{ℤ, pos, negsuc, ◌-ℤ◌, FitsSigned, arith, length-append}
 use Rattle.std.specs.Int.{w32}
-use Rattle.std.proofs.lemmas.Bool.{leb-true}
+use Rattle.std.proofs.lemmas.Bool.{eqb-true}
+use Rattle.std.proofs.lemmas.Nat.{mod_below}
 use Rattle.std.proofs.lemmas.Int.{ints}
 use borrow.Author.Differences.{up, down}
 use Rattle.word_ops.specs.declared.Op.{Op}
-use Rattle.word_ops.proofs.EachOp.{each_op}
+use Rattle.word_ops.specs.declared.Op.TheVariants as ops
+use Rattle.alpha_words.specs.declared.insn.Rhs.{Rhs}
+use Rattle.alpha_words.specs.declared.insn.Rhs.TheVariants.{Reg, Lit}
 use Rattle.alpha_words.specs.declared.insn.Insn.{Insn}
 use Rattle.alpha_cfg.specs.Actions.{Sum, Applied, Test, Always, When, Action, action_of}
 use Rattle.alpha_cfg.specs.Actions as actions
 use Rattle.alpha_cfg.specs.Flow.{IsCode, jump_of}
+use Rattle.x86_words.specs.declared.operators.AluOp.{AluOp}
 use Rattle.x86_words.specs.declared.operators.AluOp.TheVariants as alu
-use Rattle.x86_words.specs.declared.operators.X86Cond.TheVariants.{Below}
+use Rattle.x86_words.specs.declared.operators.ShiftOp.{ShiftOp}
+use Rattle.x86_words.specs.declared.operators.ShiftOp.TheVariants.{Shl, Shr, Sar}
+use Rattle.x86_words.specs.declared.operators.Scale.{Scale}
+use Rattle.x86_words.specs.declared.operators.Scale.TheVariants.{Four, Eight}
+use Rattle.x86_words.specs.declared.operators.X86Cond.{X86Cond}
+use Rattle.x86_words.specs.declared.operators.X86Cond.TheVariants.{Below, Equal, BelowOrEqual, Less, LessOrEqual}
 use Rattle.x86_words.specs.declared.insn.X86Insn.{X86Insn}
 use Rattle.x86_words.specs.declared.insn.X86Insn.TheVariants.{Mov, MovImm, MovZero, MovAbs, Load, Store, Alu, AluImm, AluLoad, Lea, LeaScaled}
 use Rattle.x86_words.specs.declared.insn.X86Insn.TheVariants.{ShiftImm, ShiftCl, Not, TestImm, Set, MovByte, MovTwo, MovFour, JumpIf, Jump, Ret, Nop}
@@ -21,16 +30,35 @@ use Rattle.x86_words.specs.declared.insn.X86Insn.TheVariants as x86
 use Rattle.x86_words.specs.Encoding.{length_of}
 use Rattle.native_steps.specs.declared.places.Place.{Place}
 use Rattle.native_steps.specs.declared.places.Place.TheVariants.{Register, Slot, Nowhere}
-use Rattle.native_steps.specs.Places.{Places, ArePlaces, place_at, is_callee_saved, RAX, RCX, FUEL}
-use Rattle.native_steps.specs.Sequences.{keep_place, op_code, keep, computed_code, load_code, load_around_code, action_code, insn_code}
+use Rattle.native_steps.specs.Places.{Places, ArePlaces, is_in, place_at, operand_place, is_callee_saved, RAX, RCX, FUEL}
+use Rattle.native_steps.specs.Sequences.{keep_place, fetch, keep, source, brought, ready, target, settle, work_reg, load_code, load_around_code}
+use Rattle.native_steps.specs.Sequences.{action_code, insn_code}
+use Rattle.native_steps.specs.Sequences.{alu_code, move_code, cmp_code, compare_code, shift_code, bic_code, scaled_code, extract_code, op_code, sum_code}
 use Rattle.native_steps.specs.Straight.{total_length}
 use Rattle.native_code.specs.declared.insn.NativeInsn.{NativeInsn}
-use Rattle.native_code.specs.declared.insn.NativeInsn.TheVariants.{Plain, GoIf}
+use Rattle.native_code.specs.declared.insn.NativeInsn.TheVariants.{Plain, Go, GoIf}
 use Rattle.native_code.specs.Heads.{is_loop_head}
 use Rattle.native_code.specs.Blocks.{for_registers, save_place, restore_place, enter, clear, entry_code, exit_code, is_argument, plain, branch_code, end_code}
 use Rattle.native_code.specs.Blocks.{return_code, spent_code, fuel_code, block_at, RDX}
-use Rattle.native_code.specs.Layout.{code_length, distance, offset_of}
-use Rattle.native_code.proofs.Texts.{length-append-code, plain-length, offset-next}
+use Rattle.native_code.specs.Layout.{code_length, padding, distance, front_code, offset_of, AlignedHeads}
+use Rattle.native_code.proofs.Texts.{length-append-code, plain-length, offset-next, block, pad, end_of}
+
+-- ---- padding
+
+nops-length : (n : ℕ) → code_length (replicate n (Plain Nop)) ≡ n
+nops-length zero = refl
+nops-length (suc n) = let h = nops-length n in omega (arith, h)
+
+padding-short : (k at : ℕ) (b : Bool) → code_length (cond b [] (Go k ∷ replicate ((32 - (at + 5) % 32) % 32) (Plain Nop))) ≤ 36
+padding-short k at true = omega arith
+padding-short k at false =
+    let n = nops-length ((32 - (at + 5) % 32) % 32) in
+    let m : (32 - (at + 5) % 32) % 32 < 32 = mod_below (32 - (at + 5) % 32) 32 (omega arith) in
+    omega (arith, n, m)
+
+pad-short-by : (k at : ℕ) (h : Bool) → code_length (cond h (padding k at) []) ≤ 36
+pad-short-by k at true = padding-short k at (at % 32 == 0)
+pad-short-by k at false = omega arith
 
 -- ---- a displacement
 
@@ -84,9 +112,6 @@ keep_place-count : (o : Place) (r from : ℕ) → length (keep_place o r from) �
 keep_place-count (Register q) r from = omega arith
 keep_place-count Slot r from = omega arith
 keep_place-count Nowhere r from = omega arith
-
-op-count : (op : Op) → length (op_code op) ≤ 3
-op-count op = leb-true (length (op_code op)) 3 (each_op (λ o. nat_le (length (op_code o)) 3) refl op)
 
 -- a list that may be left out
 either-count : (b : Bool) (l m : List X86Insn) (n : ℕ) → length l ≤ n → length m ≤ n → length (cond b l m) ≤ n
@@ -150,19 +175,106 @@ module _ (p : Places) (places : ArePlaces p) where
       let some : length (for_registers (λ r. restore_place (place_at p r) r) (length p)) ≤ 31 = omega (arith, n, all) in
       both-count (for_registers (λ r. restore_place (place_at p r) r) (length p)) (MovZero RDX why ∷ Ret ∷ []) 31 2 some (omega arith)
 
+  brought-count : (r to : ℕ) → length (brought p r to) ≤ 1
+  brought-count r to = either-count (is_in (operand_place p r) to) [] (fetch p r to ∷ []) 1 (omega arith) (omega arith)
+
+  ready-count : (r temp : ℕ) → length (ready p r temp) ≤ 1
+  ready-count r temp = brought-count r (source p r temp)
+
+  settle-count : (r work : ℕ) → length (settle p r work) ≤ 1
+  settle-count r work = either-count (is_in (operand_place p r) work) [] (keep p r) 1 (omega arith) (keep-count r)
+
+  module _ (work left : ℕ) where
+    alu-count : (op : AluOp) (right : Rhs) → length (alu_code p op work left right) ≤ 3
+    alu-count op (Lit n) = both-count (brought p left work) _ 1 2 (brought-count left work) (omega arith)
+    alu-count op (Reg r) =
+        either-count (is_in (operand_place p r) work) _ _ 3 (both-count (ready p left RCX) _ 1 2 (ready-count left RCX) (omega arith))
+        (both-count (ready p r RCX) _ 1 2 (ready-count r RCX) (both-count (brought p left work) _ 1 1 (brought-count left work) (omega arith)))
+
+    move-count : (op : AluOp) (right : Rhs) → length (move_code p op work left right) ≤ 3
+    move-count op right = either-count (eqb left 31) _ (alu_code p op work left right) 3 (omega arith) (alu-count op right)
+
+    cmp-count : (right : Rhs) → length (cmp_code p left right) ≤ 2
+    cmp-count (Lit n) = omega arith
+    cmp-count (Reg r) = both-count (ready p r RCX) _ 1 1 (ready-count r RCX) (omega arith)
+
+    compare-count : (c : X86Cond) (right : Rhs) → length (compare_code p c work left right) ≤ 5
+    compare-count c right =
+        both-count (ready p left RAX) _ 1 4 (ready-count left RAX) (both-count (cmp_code p left right) _ 2 2 (cmp-count right) (omega arith))
+
+    shift-count : (op : ShiftOp) (right : Rhs) → length (shift_code p op work left right) ≤ 3
+    shift-count op (Lit n) = both-count (brought p left work) _ 1 2 (brought-count left work) (omega arith)
+    shift-count op (Reg r) =
+        let h : length (brought p left work ++ ShiftCl op work ∷ []) ≤ 2 = both-count (brought p left work) _ 1 1 (brought-count left work) (omega arith) in
+        omega (arith, h)
+
+    bic-count : (right : Rhs) → length (bic_code p work left right) ≤ 4
+    bic-count right =
+        let h : length (brought p left work ++ Alu alu.And work RCX ∷ []) ≤ 2 =
+        both-count (brought p left work) _ 1 1 (brought-count left work) (omega arith) in
+        omega (arith, h)
+
+    scaled-count : (s : Scale) (right : Rhs) → length (scaled_code p s work left right) ≤ 3
+    scaled-count s (Lit n) = both-count (ready p left RAX) _ 1 2 (ready-count left RAX) (omega arith)
+    scaled-count s (Reg r) =
+        both-count (ready p left RAX) _ 1 2 (ready-count left RAX) (both-count (ready p r RCX) _ 1 1 (ready-count r RCX) (omega arith))
+
+    extract-count : (last : X86Insn) (right : Rhs) → length (extract_code p last work left right) ≤ 5
+    extract-count last (Lit n) = both-count (brought p left work) _ 1 4 (brought-count left work) (omega arith)
+    extract-count last (Reg r) =
+        let h : length (brought p left work ++ ShiftCl Shr work ∷ last ∷ []) ≤ 3 =
+        both-count (brought p left work) _ 1 2 (brought-count left work) (omega arith) in
+        omega (arith, h)
+
+    op-count : (op : Op) (right : Rhs) → length (op_code p op work left right) ≤ 5
+    op-count ops.Add right = let h = move-count alu.Add right in omega (arith, h)
+    op-count ops.Sub right = let h = alu-count alu.Sub right in omega (arith, h)
+    op-count ops.Band right = let h = alu-count alu.And right in omega (arith, h)
+    op-count ops.Bis right = let h = move-count alu.Or right in omega (arith, h)
+    op-count ops.Xor right = let h = alu-count alu.Xor right in omega (arith, h)
+    op-count ops.Sll right = let h = shift-count Shl right in omega (arith, h)
+    op-count ops.Srl right = let h = shift-count Shr right in omega (arith, h)
+    op-count ops.Sra right = let h = shift-count Sar right in omega (arith, h)
+    op-count ops.Cmpeq right = compare-count Equal right
+    op-count ops.Cmplt right = compare-count Less right
+    op-count ops.Cmple right = compare-count LessOrEqual right
+    op-count ops.Cmpult right = compare-count Below right
+    op-count ops.Cmpule right = compare-count BelowOrEqual right
+    op-count ops.Bic right = let h = bic-count right in omega (arith, h)
+    op-count ops.S4add right = let h = scaled-count Four right in omega (arith, h)
+    op-count ops.S8add right = let h = scaled-count Eight right in omega (arith, h)
+    op-count ops.Extb right = extract-count (MovByte work work) right
+    op-count ops.Extw right = extract-count (MovTwo work work) right
+    op-count ops.Extl right = extract-count (MovFour work work) right
+
+    sum-count : (disp : ℤ) → length (sum_code p work left disp) ≤ 2
+    sum-count disp =
+        either-count (eqb left 31) (MovImm work disp ∷ []) (ready p left RAX ++ Lea work (source p left RAX) disp ∷ []) 2 (omega arith)
+        (both-count (ready p left RAX) _ 1 1 (ready-count left RAX) (omega arith))
+
   pub action-count : (e : Action) → length (action_code p e) ≤ 6
   action-count (actions.Compute to (Sum base disp)) =
-      let k = both-count (computed_code p (Sum base disp)) (keep p to) 2 1 (omega arith) (keep-count to) in omega (arith, k)
+      let k =
+      both-count (sum_code p (target p to) base disp) (settle p to (target p to)) 2 1 (sum-count (target p to) base disp) (settle-count to (target p to)) in
+      omega (arith, k)
   action-count (actions.Compute to (Applied op left right)) =
-      let o = op-count op in
-      both-count (computed_code p (Applied op left right)) (keep p to) 5 1 (omega (arith, o)) (keep-count to)
+      let work : ℕ = work_reg p op to right in
+      both-count (op_code p op work left right) (settle p to work) 5 1 (op-count work left op right) (settle-count to work)
   action-count (actions.Load to base disp) =
-      let k = both-count (load_code p base disp) (keep p to) 2 1 (omega arith) (keep-count to) in omega (arith, k)
+      let work : ℕ = target p to in
+      let l : length (load_code p work base disp) ≤ 2 = both-count (ready p base RCX) _ 1 1 (ready-count base RCX) (omega arith) in
+      let k = both-count (load_code p work base disp) (settle p to work) 2 1 l (settle-count to work) in
+      omega (arith, k)
   action-count (actions.LoadAround to base disp) =
-      let k = both-count (load_around_code p base disp) (keep p to) 4 1 (omega arith) (keep-count to) in omega (arith, k)
-  action-count (actions.Store from base disp) = omega arith
+      let work : ℕ = target p to in
+      let l : length (load_around_code p work base disp) ≤ 4 = both-count (ready p base RCX) _ 1 3 (ready-count base RCX) (omega arith) in
+      let k = both-count (load_around_code p work base disp) (settle p to work) 4 1 l (settle-count to work) in
+      omega (arith, k)
+  action-count (actions.Store from base disp) =
+      both-count (ready p base RCX) _ 1 5 (ready-count base RCX)
+      (both-count (ready p from RAX) _ 1 4 (ready-count from RAX) (omega arith))
   action-count (actions.Branching Always) = omega arith
-  action-count (actions.Branching (When c r)) = omega arith
+  action-count (actions.Branching (When c r)) = both-count (ready p r RAX) _ 1 5 (ready-count r RAX) (omega arith)
   action-count actions.Return = omega arith
 
   pub end-count : (e : Action) (jump : Option ℕ) → length (end_code p e jump) ≤ 34
@@ -207,16 +319,49 @@ module _ (p : Places) (places : ArePlaces p) where
         let one = length-append-code (fuel_code p metered code k) (plain (insn_code p insn) ++ end_code p (action_of insn) (jump_of k insn)) in
         omega (arith, f, c, e, two, one)
 
-    front-short : (k : ℕ) → offset_of p metered code k ≤ 800 + 413 * k
-    front-short zero = let h = entry-short in omega (arith, h)
+    pad-short : (k at : ℕ) → code_length (pad p metered code k at) ≤ 36
+    pad-short k at = pad-short-by k at (is_loop_head code k)
+
+    front-short : (k : ℕ) → offset_of p metered code k ≤ 836 + 449 * k
+    front-short zero =
+        let entry : List NativeInsn = plain (entry_code p) in
+        let h = entry-short in
+        let g = pad-short 0 (code_length entry) in
+        let e = length-append-code entry (pad p metered code 0 (code_length entry)) in
+        omega (arith, h, g, e)
     front-short (suc k) =
         let h = front-short k in
         let b = block-short k (slice_get code k) in
         let e = offset-next p metered code k in
-        omega (arith, h, b, e)
+        let g = pad-short (suc k) (end_of p metered code k) in
+        omega (arith, h, b, e, g)
 
     pub offset-small : (k : ℕ) → IsCode code → k ≤ suc (length code) → offset_of p metered code k < 2 ^ 30
     offset-small k ok h =
         let s = front-short k in
         let n : length code ≤ 1024 = ok.short in
         omega (arith, s, n, h)
+
+-- ---- loop heads are aligned
+
+aligned-by : (k at : ℕ) (b : Bool) → (at % 32 == 0) ≡ b →
+    (at + code_length (cond b [] (Go k ∷ replicate ((32 - (at + 5) % 32) % 32) (Plain Nop)))) % 32 ≡ 0
+aligned-by k at true e = let h = eqb-true (at % 32) 0 e in omega (arith, h)
+aligned-by k at false e = let n = nops-length ((32 - (at + 5) % 32) % 32) in omega (arith, n)
+
+module _ (p : Places) (metered : Bool) (code : List Insn) where
+  -- so begins what has a front and a loop head's padding
+  front-aligned : (k : ℕ) (front : List NativeInsn) → is_loop_head code k ≡ true → code_length (front ++ pad p metered code k (code_length front)) % 32 ≡ 0
+  front-aligned k front h =
+      let at : ℕ = code_length front in
+      let whole = length-append-code front (pad p metered code k at) in
+      let is : code_length (pad p metered code k at) ≡ code_length (padding k at) = ap (λ b. code_length (cond b (padding k at) [])) h in
+      let a = aligned-by k at (at % 32 == 0) refl in
+      omega (arith, whole, is, a)
+
+  aligned : (k : ℕ) → is_loop_head code k ≡ true → offset_of p metered code k % 32 ≡ 0
+  aligned zero h = front-aligned zero (plain (entry_code p)) h
+  aligned (suc k) h = front-aligned (suc k) (front_code p metered code k ++ block p metered code k) h
+
+pub heads-aligned : AlignedHeads
+heads-aligned = λ p metered code k h. aligned p metered code k h

@@ -22,15 +22,15 @@ use Rattle.native_steps.specs.Straight.{total_length}
 use Rattle.native_steps.specs.Agreement.{Call, IsLent, Agrees}
 use Rattle.native_steps.proofs.Frames.{wrote, wrote-same, wrote-reads, agrees-same}
 use Rattle.native_steps.proofs.Encodable.{straight}
-use Rattle.native_code.specs.Heads.{IsLoopHead, is_loop_head, if_moved, arrivals, fuel_of}
+use Rattle.native_code.specs.Heads.{is_loop_head, if_moved, arrivals, fuel_of}
 use Rattle.native_code.specs.declared.insn.NativeInsn.{NativeInsn}
 use Rattle.native_code.specs.Blocks.{fuel_code, end_code, block_at, exit_code, spent_code}
 use Rattle.native_code.specs.Layout.{code_length, placed_from, offset_of, native_text}
 use Rattle.native_code.specs.Calls.{ArePlacesOf, spend, IsCallEnd, AgreesAt, Comes, Leaves, Follows, SimulatesRuns, Spends}
-use Rattle.native_code.proofs.Texts.{Lies, lies-as, lies-back, placed-plain, block-lies, block}
+use Rattle.native_code.proofs.Texts.{Lies, lies-as, lies-back, placed-plain, block-lies, block, gap}
 use Rattle.native_code.proofs.Reaching.{Reaches, reach-none, reach-both, reach-one, reached}
 use Rattle.native_code.proofs.Leaving.{leaves}
-use Rattle.native_code.proofs.Heading.{heads}
+use Rattle.native_code.proofs.Heading.{head-inside}
 use Rattle.native_code.proofs.Stepping.{agrees-fuel, Charged, charged, Spent, spent, Moves, moves-on}
 use Rattle.native_code.proofs.Stepping.{returns-so, middle, taking, taking-most, IsNext, block-count, charging-lies, near}
 use Rattle.native_code.proofs.Fitting.{end-count}
@@ -58,14 +58,6 @@ missing-insn : (code : List Insn) (i : ℕ) → i < length code → slice_get co
 missing-insn [] i low e = omega (arith, low)
 missing-insn (x ∷ rest) zero low e = absurd cc
 missing-insn (x ∷ rest) (suc i) low e = missing-insn rest i (omega (arith, low)) e
-
--- a loop head is an index of the code
-pub head-inside : (code : List Insn) (i : ℕ) → is_loop_head code i ≡ true → i < length code
-head-inside code i e =
-    let h : IsLoopHead code i = (heads code i).0 e in
-    let low = slice_get_within code h.from h.insn h.here in
-    let b = h.back in
-    omega (arith, low, b)
 
 -- ---- the caller's side
 
@@ -180,9 +172,9 @@ module _ (p : Places) (metered : Bool) (code : List Insn) (ok : IsCode code) (of
 
     -- the block's first part is done
     module _ (insn : Insn) (here : slice_get code s.index ≡ Some insn) where
-      -- the words of the block
+      -- the instructions of the block, and of the padding behind it
       abbrev pub size : ℕ
-      size = length (block p metered code s.index)
+      size = length (block p metered code s.index) + length (gap p metered code s.index)
 
       charged-here : cond takes 1 0 ≤ call.fuel → Charged p metered code ok of call s x takes
       charged-here enough =
@@ -208,7 +200,8 @@ module _ (p : Places) (metered : Bool) (code : List Insn) (ok : IsCode code) (of
           lent-spent call f u.rights (subst (IsLent call) same lent)
 
       sizes : size ≡ length (taking p metered code ok of takes) + (length (insn_code p insn) + length (end_code p (action_of insn) (jump_of s.index insn)))
-      sizes = block-count p metered code ok of s.index insn here
+          + length (gap p metered code s.index)
+      sizes = ap (λ n. n + length (gap p metered code s.index)) (block-count p metered code ok of s.index insn here)
 
       pub wanted-size : takes ≡ true → 2 ≤ size
       wanted-size wanted =
@@ -221,7 +214,7 @@ module _ (p : Places) (metered : Bool) (code : List Insn) (ok : IsCode code) (of
         pub count : ℕ
         pub some : 1 ≤ count
         pub few : count ≤ size
-        pub brief : count ≤ 9
+        pub brief : count ≤ 10
         pub end : X86
         pub reaches : Reaches text count x end
         pub next : IsNext p metered code ok of s.index insn here u.index

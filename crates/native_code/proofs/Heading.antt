@@ -1,8 +1,8 @@
 -- The test for loop heads is exact.
-use Rattle.std.proofs.Common.{◌≡◌, ℕ, zero, suc, ◌+◌, ◌-◌, true, false, ◌↔◌, List, [], ◌∷◌, drop, slice_get, Option, Some, None}
+use Rattle.std.proofs.Common.{◌≡◌, ℕ, zero, suc, ◌+◌, ◌-◌, ◌<◌, true, false, ◌↔◌, List, [], ◌∷◌, length, drop, slice_get, Option, Some, None}
 use Rattle.std.proofs.Common.{refl, sym, ap, ◌∙◌, subst, arith, inl, inr}
 use Rattle.std.proofs.lemmas.Bool.{cases_eq, ne_eqb, eq-eqb, or_left, or_right, or_cases}
-use Rattle.std.proofs.lemmas.Option.{same_Some}
+use Rattle.std.proofs.lemmas.Option.{same_Some, slice_get_within}
 use Rattle.alpha_words.specs.declared.insn.Insn.{Insn}
 use Rattle.alpha_cfg.specs.Flow.{jump_of}
 use Rattle.native_code.specs.Heads.{IsLoopHead, leads_to, jump_to, is_loop_head}
@@ -75,3 +75,11 @@ head-to code head h =
 
 pub heads : (code : List Insn) (head : ℕ) → (is_loop_head code head ≡ true) ↔ IsLoopHead code head
 heads code head = (head-from code head, head-to code head)
+
+-- a loop head is an index of the code
+pub head-inside : (code : List Insn) (i : ℕ) → is_loop_head code i ≡ true → i < length code
+head-inside code i e =
+    let h : IsLoopHead code i = (heads code i).0 e in
+    let low = slice_get_within code h.from h.insn h.here in
+    let b = h.back in
+    omega (arith, low, b)

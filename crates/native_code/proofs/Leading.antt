@@ -1,5 +1,6 @@
 -- Jumps of native code lead to blocks.
-use Rattle.std.proofs.Common.{ℕ, zero, suc, ◌<◌, ◌≤◌, Bool, true, false, cond, ◌&&◌, List, [], ◌∷◌, ◌++◌, length, slice_get, Option, Some, None, refl, arith}
+use Rattle.std.proofs.Common.{ℕ, zero, suc, ◌+◌, ◌-◌, ◌%◌, ◌<◌, ◌==◌, replicate, Bool, true, false, cond, ◌&&◌, List, [], ◌∷◌, ◌++◌, length, slice_get}
+use Rattle.std.proofs.Common.{Option, Some, None, refl, arith}
 use Rattle.std.proofs.Common.{◌≡◌, ℤ, pos, negsuc}
 use Rattle.std.specs.List.{All}
 use Rattle.std.proofs.lemmas.List.Elements.{All-nil, All-cons, All-append, All-map}
@@ -11,14 +12,16 @@ use Rattle.alpha_cfg.specs.Flow.{IsCode, InsideOf, landing, jump_of}
 use Rattle.x86_words.specs.declared.operators.AluOp.TheVariants as alu
 use Rattle.x86_words.specs.declared.operators.X86Cond.TheVariants.{Below}
 use Rattle.x86_words.specs.declared.insn.X86Insn.{X86Insn}
-use Rattle.x86_words.specs.declared.insn.X86Insn.TheVariants.{AluImm}
+use Rattle.x86_words.specs.declared.insn.X86Insn.TheVariants.{AluImm, Nop}
 use Rattle.native_steps.specs.Places.{Places, FUEL}
 use Rattle.native_steps.specs.Sequences.{insn_code, branch_cond}
 use Rattle.native_code.specs.declared.insn.NativeInsn.{NativeInsn}
 use Rattle.native_code.specs.declared.insn.NativeInsn.TheVariants.{Plain, Go, GoIf}
 use Rattle.native_code.specs.Heads.{is_loop_head}
-use Rattle.native_code.specs.Blocks.{plain, entry_code, branch_code, return_code, spent_code, end_code, fuel_code, block_at, front_code, whole_code}
-use Rattle.native_code.specs.Layout.{LeadsBelow}
+use Rattle.native_code.specs.Blocks.{plain, entry_code, branch_code, return_code, spent_code, end_code, fuel_code, block_at}
+use Rattle.native_code.specs.Layout.{code_length, padding, front_code, whole_code, LeadsBelow}
+use Rattle.native_code.proofs.Heading.{head-inside}
+use Rattle.native_code.proofs.Texts.{block, pad, gap, end_of}
 
 -- every jump of the list leads to a block
 abbrev Leads : ℕ → List NativeInsn → Type 0
@@ -66,6 +69,16 @@ fuel-leads n true =
     (leads-one (suc n) (GoIf Below n) (omega arith))
 fuel-leads n false = leads-nil (suc n)
 
+nops-lead : (n k : ℕ) → Leads n (replicate k (Plain Nop))
+nops-lead n zero = leads-nil n
+nops-lead n (suc k) = All-cons (LeadsBelow n) (Plain Nop) (replicate k (Plain Nop)) tt (nops-lead n k)
+
+padding-leads : (n k at : ℕ) (b : Bool) → k < n → Leads (suc n) (cond b [] (Go k ∷ replicate ((32 - (at + 5) % 32) % 32) (Plain Nop)))
+padding-leads n k at true h = leads-nil (suc n)
+padding-leads n k at false h =
+    All-cons (LeadsBelow (suc n)) (Go k) (replicate ((32 - (at + 5) % 32) % 32) (Plain Nop)) (omega (arith, h))
+    (nops-lead (suc n) ((32 - (at + 5) % 32) % 32))
+
 module _ (p : Places) (metered : Bool) (code : List Insn) (ok : IsCode code) where
   block-leads : (i : ℕ) (o : Option Insn) → slice_get code i ≡ o → Leads (suc (length code)) (block_at p metered code i o)
   block-leads i None here = leads-plain (suc (length code)) (spent_code p)
@@ -78,11 +91,18 @@ module _ (p : Places) (metered : Bool) (code : List Insn) (ok : IsCode code) whe
       leads-both (suc (length code)) (fuel_code p metered code i) (plain (insn_code p insn) ++ end_code p (action_of insn) (jump_of i insn))
       (fuel-leads (length code) (metered && is_loop_head code i)) rest
 
+  pad-leads : (k at : ℕ) (h : Bool) → is_loop_head code k ≡ h → Leads (suc (length code)) (cond h (padding k at) [])
+  pad-leads k at false e = leads-nil (suc (length code))
+  pad-leads k at true e = let low = head-inside code k e in padding-leads (length code) k at (at % 32 == 0) low
+
   front-leads : (k : ℕ) → Leads (suc (length code)) (front_code p metered code k)
-  front-leads zero = leads-plain (suc (length code)) (entry_code p)
+  front-leads zero =
+      leads-both (suc (length code)) (plain (entry_code p)) (pad p metered code 0 (code_length (plain (entry_code p))))
+      (leads-plain (suc (length code)) (entry_code p)) (pad-leads 0 (code_length (plain (entry_code p))) (is_loop_head code 0) refl)
   front-leads (suc k) =
-      leads-both (suc (length code)) (front_code p metered code k) (block_at p metered code k (slice_get code k))
-      (front-leads k) (block-leads k (slice_get code k) refl)
+      leads-both (suc (length code)) (front_code p metered code k ++ block p metered code k) (gap p metered code k)
+      (leads-both (suc (length code)) (front_code p metered code k) (block p metered code k) (front-leads k) (block-leads k (slice_get code k) refl))
+      (pad-leads (suc k) (end_of p metered code k) (is_loop_head code (suc k)) refl)
 
 pub inner-targets : (p : Places) (metered : Bool) (code : List Insn) → IsCode code → All (LeadsBelow (suc (length code))) (whole_code p metered code)
 inner-targets p metered code ok = front-leads p metered code ok (suc (length code))

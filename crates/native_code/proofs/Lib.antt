@@ -4,8 +4,9 @@ pub mod Heading
 pub mod Reaching
 pub mod Leaving
 pub mod Entering
-pub mod Called
 pub mod Fitting
+pub mod Passing
+pub mod Called
 pub mod Leading
 pub mod Stepping
 pub mod Following

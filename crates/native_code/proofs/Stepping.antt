@@ -1,5 +1,5 @@
 -- One Alpha step: fuel, the block's sequence, and where it goes on.
-use Rattle.std.proofs.Common.{◌≡◌, ◌≢◌, ℕ, suc, ◌+◌, ◌-◌, ◌^◌, ◌<◌, ◌≤◌, Bool, true, false, cond, List, [], ◌∷◌, ◌++◌, length, slice_get}
+use Rattle.std.proofs.Common.{◌≡◌, ◌≢◌, ℕ, suc, ◌+◌, ◌-◌, ◌^◌, ◌<◌, ◌≤◌, ◌==◌, Bool, true, false, cond, List, [], ◌∷◌, ◌++◌, length, slice_get}
 use Rattle.std.proofs.Common.{◌⊎◌, length-append, FitsSigned, slice_index, Option, Some, ℤ, pos, negsuc, ◌+ℤ◌, refl, sym, ap, ◌∙◌, subst, arith, inl, inr}
 use Rattle.std.specs.Int.{w32}
 use Rattle.std.proofs.lemmas.Bool.{ne_eqb, eq-eqb}
@@ -28,17 +28,28 @@ use Rattle.alpha_cfg.specs.Actions as actions
 use Rattle.alpha_cfg.specs.Flow.{IsCode, InsideOf, landing, jump_of}
 use Rattle.alpha_cfg.specs.Machine.{State, IsState, access_outcome, address_of, aligned, state_at, takes, action_outcome, insn_outcome}
 use Rattle.x86_words.specs.declared.operators.AluOp.TheVariants as alu
-use Rattle.x86_words.specs.declared.operators.X86Cond.TheVariants.{Below}
+use Rattle.x86_words.specs.declared.operators.AluOp.{AluOp}
+use Rattle.x86_words.specs.declared.operators.ShiftOp.{ShiftOp}
+use Rattle.x86_words.specs.declared.operators.ShiftOp.TheVariants.{Shl, Shr, Sar}
+use Rattle.x86_words.specs.declared.operators.Scale.{Scale}
+use Rattle.x86_words.specs.declared.operators.Scale.TheVariants.{Four, Eight}
+use Rattle.x86_words.specs.declared.operators.X86Cond.{X86Cond}
+use Rattle.x86_words.specs.declared.operators.X86Cond.TheVariants.{Below, Equal, BelowOrEqual, Less, LessOrEqual}
+use Rattle.alpha_words.specs.declared.insn.Rhs.{Rhs}
+use Rattle.alpha_words.specs.declared.insn.Rhs.TheVariants.{Reg, Lit}
+use Rattle.word_ops.specs.declared.Op.{Op}
 use Rattle.x86_words.specs.declared.insn.X86Insn.{X86Insn}
-use Rattle.x86_words.specs.declared.insn.X86Insn.TheVariants.{AluImm, JumpIf, Jump}
+use Rattle.x86_words.specs.declared.insn.X86Insn.TheVariants.{AluImm, JumpIf, Jump, MovByte, MovTwo, MovFour}
 use Rattle.x86_words.specs.Encoding.{length_of, IsX86Insn}
 use Rattle.x86_machine.specs.declared.flags.Flags.{Flags}
 use Rattle.x86_machine.specs.Flags.{alu_word, alu_flags, AfterSubOne}
 use Rattle.x86_machine.specs.declared.outcome.X86Outcome.TheVariants as outcomes
-use Rattle.x86_machine.specs.Machine.{X86, x86_run}
+use Rattle.x86_machine.specs.Machine.{X86, IsX86, x86_run}
 use Rattle.x86_machine.proofs.Orders.{after_sub_one}
-use Rattle.native_steps.specs.Places.{Places, ArePlaces, IsSomewhere, is_free, is_callee_saved, AREA, FUEL, RAX}
-use Rattle.native_steps.specs.Sequences.{ReadsPlaced, test_code, action_code, insn_code, branch_cond, fetch}
+use Rattle.native_steps.specs.Places.{Places, ArePlaces, IsSomewhere, is_free, is_in, operand_place, is_callee_saved, AREA, FUEL, RAX, RCX}
+use Rattle.native_steps.specs.Sequences.{ReadsPlaced, test_code, action_code, insn_code, branch_cond, fetch, brought, ready, target, work_reg}
+use Rattle.native_steps.specs.Sequences.{load_code, load_around_code, alu_code, move_code, cmp_code, compare_code, shift_code, scaled_code, extract_code}
+use Rattle.native_steps.specs.Sequences.{op_code, sum_code}
 use Rattle.native_steps.specs.Straight.{total_length, x86_straight}
 use Rattle.native_steps.specs.Agreement.{Call, IsLent, Agrees, EndsInAgreement, DecidesBranch}
 use Rattle.native_steps.proofs.Frames.{wrote, wrote-is, wrote-reads, wrote-other, flags-same, agrees-same, isnt}
@@ -51,7 +62,8 @@ use Rattle.native_code.specs.Blocks.{plain, branch_code, end_code, fuel_code, bl
 use Rattle.native_code.specs.Layout.{code_length, distance, placed_from, offset_of, native_text}
 use Rattle.native_code.specs.Calls.{ArePlacesOf, spend, IsCallEnd, AgreesAt}
 use Rattle.native_code.proofs.Texts.{plain-length, length-append-code, placed-append, placed-plain, placed-length, Lies, lies-as, lies-front, lies-back}
-use Rattle.native_code.proofs.Texts.{offset-next, block-lies, block}
+use Rattle.native_code.proofs.Texts.{offset-next, block-lies, block, pad, gap, end_of, end-is, gap-lies}
+use Rattle.native_code.proofs.Passing.{Passes, pass-none, passes}
 use Rattle.native_code.proofs.Walking.{jumped, jumped-if}
 use Rattle.native_code.proofs.Reaching.{Reaches, reach-none, reach-both, reach-straight, reach-one}
 use Rattle.native_code.proofs.Leaving.{leaves}
@@ -93,14 +105,81 @@ agrees-wrote-fuel p call s x at w f places below a =
 
 -- ---- instructions are counted
 
--- an action with nothing behind its sequence has one
+-- a list with something at its end
+some-last : (l : List X86Insn) (i : X86Insn) (rest : List X86Insn) → 1 ≤ length (l ++ i ∷ rest)
+some-last l i rest = let n = length-append l (i ∷ rest) in omega (arith, n)
+
+some-front : (l m : List X86Insn) → 1 ≤ length l → 1 ≤ length (l ++ m)
+some-front l m h = let n = length-append l m in omega (arith, n, h)
+
+some-back : (l m : List X86Insn) → 1 ≤ length m → 1 ≤ length (l ++ m)
+some-back l m h = let n = length-append l m in omega (arith, n, h)
+
+some-either : (b : Bool) (l m : List X86Insn) → 1 ≤ length l → 1 ≤ length m → 1 ≤ length (cond b l m)
+some-either true l m h k = h
+some-either false l m h k = k
+
+module _ (p : Places) (work left : ℕ) where
+  alu-some : (op : AluOp) (right : Rhs) → 1 ≤ length (alu_code p op work left right)
+  alu-some op (Lit n) = some-last (brought p left work) _ []
+  alu-some op (Reg r) =
+      some-either (is_in (operand_place p r) work) _ _ (some-last (ready p left RCX) _ [])
+      (some-back (ready p r RCX) _ (some-last (brought p left work) _ []))
+
+  move-some : (op : AluOp) (right : Rhs) → 1 ≤ length (move_code p op work left right)
+  move-some op right = some-either (left == 31) _ _ (omega arith) (alu-some op right)
+
+  compare-some : (c : X86Cond) (right : Rhs) → 1 ≤ length (compare_code p c work left right)
+  compare-some c right = some-back (ready p left RAX) _ (some-last (cmp_code p left right) _ _)
+
+  shift-some : (op : ShiftOp) (right : Rhs) → 1 ≤ length (shift_code p op work left right)
+  shift-some op (Lit n) = some-last (brought p left work) _ []
+  shift-some op (Reg r) = omega arith
+
+  scaled-some : (s : Scale) (right : Rhs) → 1 ≤ length (scaled_code p s work left right)
+  scaled-some s (Lit n) = some-last (ready p left RAX) _ _
+  scaled-some s (Reg r) = some-back (ready p left RAX) _ (some-last (ready p r RCX) _ [])
+
+  extract-some : (last : X86Insn) (right : Rhs) → 1 ≤ length (extract_code p last work left right)
+  extract-some last (Lit n) = some-last (brought p left work) _ _
+  extract-some last (Reg r) = omega arith
+
+  op-some : (op : Op) (right : Rhs) → 1 ≤ length (op_code p op work left right)
+  op-some ops.Add right = move-some alu.Add right
+  op-some ops.Sub right = alu-some alu.Sub right
+  op-some ops.Band right = alu-some alu.And right
+  op-some ops.Bis right = move-some alu.Or right
+  op-some ops.Xor right = alu-some alu.Xor right
+  op-some ops.Sll right = shift-some Shl right
+  op-some ops.Srl right = shift-some Shr right
+  op-some ops.Sra right = shift-some Sar right
+  op-some ops.Cmpeq right = compare-some Equal right
+  op-some ops.Cmplt right = compare-some Less right
+  op-some ops.Cmple right = compare-some LessOrEqual right
+  op-some ops.Cmpult right = compare-some Below right
+  op-some ops.Cmpule right = compare-some BelowOrEqual right
+  op-some ops.Bic right = omega arith
+  op-some ops.S4add right = scaled-some Four right
+  op-some ops.S8add right = scaled-some Eight right
+  op-some ops.Extb right = extract-some (MovByte work work) right
+  op-some ops.Extw right = extract-some (MovTwo work work) right
+  op-some ops.Extl right = extract-some (MovFour work work) right
+
+  sum-some : (disp : ℤ) → 1 ≤ length (sum_code p work left disp)
+  sum-some disp = some-either (left == 31) _ _ (omega arith) (some-last (ready p left RAX) _ [])
+
+-- an action with nothing behind its sequence has an instruction
 action-some : (p : Places) (e : Action) (jump : Option ℕ) → end_code p e jump ≡ [] → ((test : Test) → e ≡ actions.Branching test → ⊥) →
     1 ≤ length (action_code p e)
-action-some p (actions.Compute to (Sum base disp)) jump none apart = omega arith
-action-some p (actions.Compute to (Applied op left right)) jump none apart = omega arith
-action-some p (actions.Load to base disp) jump none apart = omega arith
-action-some p (actions.LoadAround to base disp) jump none apart = omega arith
-action-some p (actions.Store from base disp) jump none apart = omega arith
+action-some p (actions.Compute to (Sum base disp)) jump none apart =
+    some-front (sum_code p (target p to) base disp) _ (sum-some p (target p to) base disp)
+action-some p (actions.Compute to (Applied op left right)) jump none apart =
+    some-front (op_code p op (work_reg p op to right) left right) _ (op-some p (work_reg p op to right) left op right)
+action-some p (actions.Load to base disp) jump none apart =
+    some-front (load_code p (target p to) base disp) _ (some-last (ready p base RCX) _ [])
+action-some p (actions.LoadAround to base disp) jump none apart =
+    some-front (load_around_code p (target p to) base disp) _ (some-last (ready p base RCX) _ _)
+action-some p (actions.Store from base disp) jump none apart = some-back (ready p base RCX) _ (some-last (ready p from RAX) _ [])
 action-some p (actions.Branching test) jump none apart = absurd (apart test refl)
 action-some p actions.Return jump none apart = absurd cc
 
@@ -310,16 +389,37 @@ module _ (p : Places) (metered : Bool) (code : List Insn) (ok : IsCode code) (of
     pub ending-lies : Lies text after (placed_from offset after ending)
     ending-lies = lies-back text middle insns (placed_from offset after ending) second-lies
 
-    -- the next block begins after the ending
-    pub next-is : offset (suc i) ≡ after + code_length ending
-    next-is =
-        let n = offset-next p metered code i in
+    -- the block ends after the ending
+    last-is : end_of p metered code i ≡ after + code_length ending
+    last-is =
+        let n = end-is p metered code i in
         let b : code_length (block p metered code i) ≡ code_length (charging ++ (plain insns ++ ending)) =
         ap (λ o. code_length (block_at p metered code i o)) here in
         let one = length-append-code charging (plain insns ++ ending) in
         let two = length-append-code (plain insns) ending in
         let three = plain-length insns in
         omega (arith, n, b, one, two, three)
+
+    -- the next block begins after padding
+    next-is : offset (suc i) ≡ after + code_length ending + code_length (gap p metered code i)
+    next-is =
+        let n = offset-next p metered code i in
+        let e = end-is p metered code i in
+        let l = last-is in
+        omega (arith, n, e, l)
+
+    -- a run that comes to the block's end goes on at the next block
+    passed : (x : X86) → IsX86 x → x.at ≡ after + code_length ending → Passes p places metered code ok (suc i) (length (gap p metered code i)) x
+    passed x is at =
+        let same : x.at ≡ end_of p metered code i = at ∙ sym last-is in
+        let h = inside in
+        let n = next-is in
+        let s = small (suc i) (omega (arith, h)) in
+        let e = ap (λ k. code_length (pad p metered code (suc i) k)) same in
+        subst (λ k. Passes p places metered code ok (suc i) (length (pad p metered code (suc i) k)) x) same
+        (passes p places metered code ok (suc i) x is (omega (arith, h)) (omega (arith, n, s, at))
+        (subst (λ k. Lies text k (placed_from offset k (pad p metered code (suc i) k))) (sym same) (gap-lies p metered code i (omega (arith, h))))
+        (omega (arith, n, at, e)))
 
     pub near : offset i + 13 < 2 ^ 31
     near = let s = small i (let h = inside in omega (arith, h)) in omega (arith, s)
@@ -331,9 +431,10 @@ module _ (p : Places) (metered : Bool) (code : List Insn) (ok : IsCode code) (of
         omega (arith, s, n)
 
     -- where a branch leads, either way
-    two-ways : (target next : ℕ) → next ≡ offset (suc i) → (v : Bool) → cond v (offset target) next ≡ offset (cond v target (suc i))
-    two-ways target next e true = refl
-    two-ways target next e false = e
+    two-ways : (target : ℕ) (v : Bool) (x : X86) → IsX86 x → x.at ≡ cond v (offset target) (after + code_length ending) →
+        Passes p places metered code ok (cond v target (suc i)) (length (gap p metered code i)) x
+    two-ways target true x is at = pass-none p places metered code ok target (length (gap p metered code i)) x is at
+    two-ways target false x is at = passed x is at
 
     -- ---- a step that moves
 
@@ -341,12 +442,12 @@ module _ (p : Places) (metered : Bool) (code : List Insn) (ok : IsCode code) (of
     abbrev pub IsNext : ℕ → Type 0
     IsNext j = (j ≡ suc i) ⊎ (jump_of i insn ≡ Some j)
 
-    -- One or more steps lead from the sequence to the block of the next index: no more than there are instructions.
+    -- One or more steps lead from the sequence to the block of the next index: no more than there are instructions up to there.
     pub record Moves (call : Call) (t : State) (x : X86) : Type 0 where
       pub count : ℕ
       pub some : 1 ≤ count
-      pub few : count ≤ length insns + length ending
-      pub brief : count ≤ 7
+      pub few : count ≤ length insns + length ending + length (gap p metered code i)
+      pub brief : count ≤ 8
       pub end : X86
       pub reaches : Reaches text count x end
       pub next : IsNext t.index
@@ -381,18 +482,19 @@ module _ (p : Places) (metered : Bool) (code : List Insn) (ok : IsCode code) (of
             let reaches : Reaches text (length insns) x e.end = reach-straight text insns x e.end lie-here all e.runs in
             let a = e.at in
             let m = at_middle in
-            let n = next-is in
             let no-more : code_length ending ≡ 0 = ap code_length none in
-            let at_next : e.end.at ≡ offset (suc i) = omega (arith, a, m, n, no-more) in
+            let g = passed e.end e.agrees.machine (omega (arith, a, m, no-more)) in
+            let one = g.brief in
+            let most = g.few in
             record {
-              count = length insns;
-              some = some;
-              few = omega arith;
-              brief = let short = action-count p places (action_of insn) in omega (arith, short);
-              end = e.end;
-              reaches = reaches;
+              count = length insns + g.count;
+              some = omega (arith, some);
+              few = omega (arith, most);
+              brief = let short = action-count p places (action_of insn) in omega (arith, short, one);
+              end = g.end;
+              reaches = reach-both text x e.end g.end reaches g.reaches;
               next = inl index;
-              agrees = record { at = at_next ∙ ap offset (sym index); agrees = e.agrees };
+              agrees = record { at = g.at ∙ ap offset (sym index); agrees = agrees-same p call t e.end g.end places e.agrees g.same };
             }
 
         -- the sequence of a branch that is always taken is empty
@@ -452,23 +554,23 @@ module _ (p : Places) (metered : Bool) (code : List Insn) (ok : IsCode code) (of
             let to-end : Reaches text 1 y end =
             reach-one text y end jump [] (record { widths = far; operands = refl }) lies
             (jumped-if y (y.at + 6) (offset target) (branch_cond c) d.flags b d.set d.says) in
-            let six : y.at + 6 ≡ offset (suc i) =
-            let n = next-is in
-            let l : code_length ending ≡ 6 = ap code_length last in
-            omega (arith, n, l, at_after) in
-            let place : (v : Bool) → cond v (offset target) (y.at + 6) ≡ offset (cond v target (suc i)) = two-ways target (y.at + 6) six in
-            let moved : Agrees p call (record s { index = cond b target (suc i) }) end =
-            agrees-index p call places s (cond b target (suc i)) end
-            (agrees-same p call s y end places d.comes.agrees (flags-same y (cond b (offset target) (y.at + 6)) y.flags d.comes.agrees.machine)) in
+            let six : y.at + 6 ≡ after + code_length ending = let l : code_length ending ≡ 6 = ap code_length last in omega (arith, l, at_after) in
+            let end-same = flags-same y (cond b (offset target) (y.at + 6)) y.flags d.comes.agrees.machine in
+            let g = two-ways target b end end-same.machine (ap (λ n. cond b (offset target) n) six) in
+            let step = g.brief in
+            let most = g.few in
+            let moved : Agrees p call (record s { index = cond b target (suc i) }) g.end =
+            agrees-index p call places s (cond b target (suc i)) g.end
+            (agrees-same p call s end g.end places (agrees-same p call s y end places d.comes.agrees end-same) g.same) in
             record {
-              count = length insns + 1;
+              count = length insns + 1 + g.count;
               some = omega arith;
-              few = omega (arith, one);
-              brief = let short = action-count p places (action_of insn) in omega (arith, short);
-              end = end;
-              reaches = reach-both text x y end to-y to-end;
+              few = omega (arith, one, most);
+              brief = let short = action-count p places (action_of insn) in omega (arith, short, step);
+              end = g.end;
+              reaches = reach-both text x end g.end (reach-both text x y end to-y to-end) g.reaches;
               next = next-as (cond b target (suc i)) t.index (ap (λ (u : State). u.index) e) (either-way target b leads);
-              agrees = subst (λ u. AgreesAt p metered code call u end) (sym e) (record { at = place b; agrees = moved });
+              agrees = subst (λ u. AgreesAt p metered code call u g.end) (sym e) (record { at = g.at; agrees = moved });
             }
 
         -- ---- each action

@@ -1,6 +1,6 @@
 -- Where instructions stand in the text: lists of instructions, their bytes, and what is in front of a block.
 use Rattle.std.proofs.Common.{◌≡◌, ℕ, zero, suc, ◌+◌, ◌<◌, ◌≤◌, Bool, List, [], ◌∷◌, ◌++◌, length, slice_get, refl, sym, ap, ◌∙◌, subst, arith}
-use Rattle.std.proofs.Common.{inl, inr, length-append}
+use Rattle.std.proofs.Common.{inl, inr, cond, length-append}
 use Rattle.std.specs.List.{flat_map}
 use Rattle.std.proofs.lemmas.Bool.{cases_eq}
 use Rattle.std.proofs.lemmas.List.{append_assoc, append-nil}
@@ -14,8 +14,9 @@ use Rattle.native_steps.specs.Places.{Places}
 use Rattle.native_steps.specs.Straight.{total_length}
 use Rattle.native_code.specs.declared.insn.NativeInsn.{NativeInsn}
 use Rattle.native_code.specs.declared.insn.NativeInsn.TheVariants.{Plain, Go, GoIf}
-use Rattle.native_code.specs.Blocks.{plain, block_at, front_code, whole_code}
-use Rattle.native_code.specs.Layout.{native_length, code_length, placed, placed_from, offset_of, native_text}
+use Rattle.native_code.specs.Heads.{is_loop_head}
+use Rattle.native_code.specs.Blocks.{plain, block_at}
+use Rattle.native_code.specs.Layout.{native_length, code_length, padding, placed, placed_from, front_code, whole_code, offset_of, native_text}
 
 -- ---- lengths
 
@@ -120,59 +121,84 @@ module _ (p : Places) (metered : Bool) (code : List Insn) where
   abbrev pub block : ℕ → List NativeInsn
   block k = block_at p metered code k (slice_get code k)
 
-  abbrev front : ℕ → List NativeInsn
+  abbrev pub front : ℕ → List NativeInsn
   front = front_code p metered code
+
+  -- the padding from an offset to the block of an index, if that is a loop head
+  abbrev pub pad : ℕ → ℕ → List NativeInsn
+  pad k at = cond (is_loop_head code k) (padding k at) []
+
+  -- where the block of an index ends
+  abbrev pub end_of : ℕ → ℕ
+  end_of k = code_length (front k ++ block k)
+
+  -- the padding behind it
+  abbrev pub gap : ℕ → List NativeInsn
+  gap k = pad (suc k) (end_of k)
+
+  pub end-is : (k : ℕ) → end_of k ≡ offset k + code_length (block k)
+  end-is k = length-append-code (front k) (block k)
 
   -- a block in what stands in front of another
   pub record IsWithin (k n : ℕ) : Type 0 where
     pub rest : List NativeInsn
-    pub whole : front n ≡ front k ++ (block k ++ rest)
+    pub whole : front n ≡ front k ++ (block k ++ (gap k ++ rest))
 
   within : (n k : ℕ) → k < n → IsWithin k n
   within zero k h = absurd (omega (arith, h))
   within (suc m) k h = elim (cases_eq k m) [
     | inl e ↦
-        let last : front (suc m) ≡ front m ++ (block m ++ []) = ap (λ l. front m ++ l) (sym (append-nil (block m))) in
+        let last : front (suc m) ≡ front m ++ (block m ++ (gap m ++ [])) =
+        append_assoc (front m) (block m) (gap m) ∙ ap (λ l. front m ++ (block m ++ l)) (sym (append-nil (gap m))) in
         subst (λ j. IsWithin j (suc m)) (sym e) (record { rest = []; whole = last })
     | inr n ↦
         let w = within m k (omega (arith, h, n)) in
+        let next : List NativeInsn = block m ++ gap m in
         record {
-          rest = w.rest ++ block m;
+          rest = w.rest ++ next;
           whole =
-              ap (λ l. l ++ block m) w.whole ∙ append_assoc (front k) (block k ++ w.rest) (block m)
-              ∙ ap (λ l. front k ++ l) (append_assoc (block k) w.rest (block m));
+              append_assoc (front m) (block m) (gap m) ∙ ap (λ l. l ++ next) w.whole ∙ append_assoc (front k) (block k ++ (gap k ++ w.rest)) next
+              ∙ ap (λ l. front k ++ l) (append_assoc (block k) (gap k ++ w.rest) next ∙ ap (λ l. block k ++ l) (append_assoc (gap k) w.rest next));
         }
   ]
 
   -- where the next block begins
-  pub offset-next : (k : ℕ) → offset (suc k) ≡ offset k + code_length (block k)
-  offset-next k = length-append-code (front k) (block k)
+  pub offset-next : (k : ℕ) → offset (suc k) ≡ offset k + code_length (block k) + code_length (gap k)
+  offset-next k = length-append-code (front k ++ block k) (gap k) ∙ ap (λ n. n + code_length (gap k)) (end-is k)
+
+  abbrev text : List ℕ
+  text = native_text p metered code
+
+  -- what stands in front of a list stands before it
+  pub part-lies : (before part rest : List NativeInsn) (at : ℕ) → whole_code p metered code ≡ before ++ (part ++ rest) → code_length before ≡ at →
+      Lies text at (placed_from offset at part)
+  part-lies before part rest at e place =
+      let insns : List NativeInsn → List X86Insn = placed_from offset 0 in
+      let zero_up : 0 + code_length before ≡ at = omega (arith, place) in
+      let behind : List X86Insn = placed_from offset (at + code_length part) rest in
+      let split : insns (whole_code p metered code) ≡ insns before ++ (placed_from offset at part ++ behind) =
+      ap insns e ∙ placed-append offset 0 before (part ++ rest)
+      ∙ ap (λ n. insns before ++ placed_from offset n (part ++ rest)) zero_up
+      ∙ ap (λ l. insns before ++ l) (placed-append offset at part rest) in
+      let all : Lies text 0 (insns before ++ (placed_from offset at part ++ behind)) =
+      record { before = []; after = []; place = refl; whole = ap all_bytes split ∙ sym (append-nil _) } in
+      let at_part : 0 + total_length (insns before) ≡ at = let n = placed-length offset 0 before in omega (arith, n, place) in
+      lies-front text at (placed_from offset at part) behind
+      (subst (λ n. Lies text n (placed_from offset at part ++ behind)) at_part
+      (lies-back text 0 (insns before) (placed_from offset at part ++ behind) all))
 
   -- each block stands at its offset
-  pub block-lies : (k : ℕ) → k ≤ length code → Lies (native_text p metered code) (offset k) (placed_from offset (offset k) (block k))
+  pub block-lies : (k : ℕ) → k ≤ length code → Lies text (offset k) (placed_from offset (offset k) (block k))
   block-lies k h =
       let w = within (suc (length code)) k (omega (arith, h)) in
-      let insns : List NativeInsn → List X86Insn = placed_from offset 0 in
-      let zero_up : 0 + offset k ≡ offset k = omega arith in
-      let behind : List X86Insn = placed_from offset (offset k + code_length (block k)) w.rest in
-      let split : insns (whole_code p metered code) ≡ insns (front k) ++ (placed_from offset (offset k) (block k) ++ behind) =
-      ap insns w.whole ∙ placed-append offset 0 (front k) (block k ++ w.rest)
-      ∙ ap (λ n. insns (front k) ++ placed_from offset n (block k ++ w.rest)) zero_up
-      ∙ ap (λ l. insns (front k) ++ l) (placed-append offset (offset k) (block k) w.rest) in
-      let all : Lies (native_text p metered code) 0 (insns (front k) ++ (placed_from offset (offset k) (block k) ++ behind)) =
-      record { before = []; after = []; place = refl; whole = ap all_bytes split ∙ sym (append-nil _) } in
-      let at_block : 0 + total_length (insns (front k)) ≡ offset k = let n = placed-length offset 0 (front k) in omega (arith, n) in
-      let rest : Lies (native_text p metered code) (offset k) (placed_from offset (offset k) (block k) ++ behind) =
-      subst (λ n. Lies (native_text p metered code) n (placed_from offset (offset k) (block k) ++ behind)) at_block
-      (lies-back (native_text p metered code) 0 (insns (front k)) (placed_from offset (offset k) (block k) ++ behind) all) in
-      lies-front (native_text p metered code) (offset k) (placed_from offset (offset k) (block k)) behind rest
+      part-lies (front k) (block k) (gap k ++ w.rest) (offset k) w.whole refl
+
+  -- and the padding at its end
+  pub gap-lies : (k : ℕ) → k ≤ length code → Lies text (end_of k) (placed_from offset (end_of k) (gap k))
+  gap-lies k h =
+      let w = within (suc (length code)) k (omega (arith, h)) in
+      part-lies (front k ++ block k) (gap k) w.rest (end_of k) (w.whole ∙ sym (append_assoc (front k) (block k) (gap k ++ w.rest))) refl
 
   -- the entry stands at the beginning
-  pub entry-lies : (rest : List NativeInsn) (entry : List X86Insn) → whole_code p metered code ≡ plain entry ++ rest →
-      Lies (native_text p metered code) 0 entry
-  entry-lies rest entry e =
-      let behind : List X86Insn = placed_from offset (0 + code_length (plain entry)) rest in
-      let split : placed_from offset 0 (whole_code p metered code) ≡ entry ++ behind =
-      ap (placed_from offset 0) e ∙ placed-append offset 0 (plain entry) rest ∙ ap (λ l. l ++ behind) (placed-plain offset 0 entry) in
-      lies-front (native_text p metered code) 0 entry behind
-      (record { before = []; after = []; place = refl; whole = ap all_bytes split ∙ sym (append-nil _) })
+  pub entry-lies : (rest : List NativeInsn) (entry : List X86Insn) → whole_code p metered code ≡ plain entry ++ rest → Lies text 0 entry
+  entry-lies rest entry e = lies-as text 0 (placed_from offset 0 (plain entry)) entry (placed-plain offset 0 entry) (part-lies [] (plain entry) rest 0 e refl)

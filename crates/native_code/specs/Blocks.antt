@@ -1,7 +1,7 @@
 -- What native code consists of: an entry, a block for each Alpha instruction, and an end for runs that are out of fuel.
 -- System V Application Binary Interface, AMD64 Architecture Processor Supplement, section 3.2.1 and figure 3.4: which registers a function
 -- leaves as they were; section 3.2.3: in which registers arguments and results are passed.
-use Rattle.std.specs.Prelude.{ℕ, zero, suc, Bool, ◌&&◌, ◌||◌, ◌==◌, if◌then◌else◌, List, [], ◌∷◌, ◌++◌, map, length, slice_get, Option, Some, None, pos}
+use Rattle.std.specs.Prelude.{ℕ, zero, suc, Bool, ◌&&◌, ◌||◌, ◌==◌, if◌then◌else◌, List, [], ◌∷◌, ◌++◌, map, length, Option, Some, None, pos}
 use Rattle.alpha_words.specs.declared.insn.Insn.{Insn}
 use Rattle.alpha_cfg.specs.Actions.{Test, Always, When, Action, action_of}
 use Rattle.alpha_cfg.specs.Actions as actions
@@ -106,12 +106,3 @@ module _ (p : Places) where
     abbrev pub block_at : ℕ → Option Insn → List NativeInsn
     block_at i None = plain spent_code
     block_at i (Some insn) = block_of i insn
-
-    -- the entry, and the blocks of the indices below k
-    abbrev pub front_code : ℕ → List NativeInsn
-    front_code zero = plain entry_code
-    front_code (suc k) = front_code k ++ block_at k (slice_get code k)
-
-    -- All of it: the block of index `length code` ends the runs that are out of fuel.
-    abbrev pub whole_code : List NativeInsn
-    whole_code = front_code (suc (length code))

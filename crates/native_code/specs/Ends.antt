@@ -2,7 +2,7 @@
 use Rattle.std.specs.Prelude.{◌≡◌, ◌↔◌, ◌⊎◌, ℕ, ◌+◌, ◌*◌, ◌<◌, ◌≤◌, Bool, true, false, List, length, slice_index, suc}
 use Rattle.alpha_words.specs.declared.insn.Insn.{Insn}
 use Rattle.alpha_cfg.specs.declared.outcome.Outcome.{Outcome}
-use Rattle.alpha_cfg.specs.declared.outcome.Outcome.TheVariants.{OutOfSteps, Returned, Blocked}
+use Rattle.alpha_cfg.specs.declared.outcome.Outcome.TheVariants.{Returned, Blocked}
 use Rattle.alpha_cfg.specs.Flow.{IsCode}
 use Rattle.alpha_cfg.specs.Machine.{State, IsState, run_of}
 use Rattle.x86_machine.specs.declared.outcome.X86Outcome.{X86Outcome}

@@ -7,7 +7,7 @@
 //! - It returns r0 in rax and 0 in rdx; if it ran out of fuel, 0 in rax and 1 in rdx.
 //! - No instruction writes rsp. Registers that the caller wants back are saved in the area.
 //! - A loop head is an index that is the target of a jump from itself or a later index. Each arrival
-//!   at one takes a unit of fuel, if fuel is counted.
+//!   at one takes a unit of fuel, if fuel is counted. Its block begins at a multiple of 32.
 //!
 //! The definitions are in `specs/`:
 //!

@@ -3,7 +3,7 @@
 ghost use Rattle.std.specs.Prelude.{◌≡◌, ℕ, ◌↔◌, true, List};
 ghost use Rattle.alpha_words.specs.declared.insn.Insn.{Insn};
 ghost use Rattle.native_code.specs.Heads.{IsLoopHead, is_loop_head};
-ghost use Rattle.native_code.specs.Layout.{SmallOffsets, InnerTargets};
+ghost use Rattle.native_code.specs.Layout.{AlignedHeads, SmallOffsets, InnerTargets};
 ghost use Rattle.native_code.specs.Calls.{Called, SimulatesRuns, Spends};
 ghost use Rattle.native_code.specs.Ends.{EndingCalls, ReturningCalls, SafeCalls};
 
@@ -14,10 +14,11 @@ pub fn head_laws()
 {}
 
 /// Proves that displacements fit: native code is short (`small`), and its jumps lead to blocks
-/// (`targets`).
+/// (`targets`). The blocks of loop heads begin at multiples of 32 (`aligned`).
 pub fn layout_laws()
     ensures small { SmallOffsets }
     ensures targets { InnerTargets }
+    ensures aligned { AlignedHeads }
 {}
 
 /// Proves what calls of native code do.

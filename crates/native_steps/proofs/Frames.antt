@@ -67,6 +67,63 @@ wrote-reads x at f to word is h = get_or-set_same x.regs to word 0 (let n = is.c
 pub wrote-other : (x : X86) (at : ℕ) (f : Option Flags) (to word q : ℕ) → q ≢ to → slice_index (wrote x at f to word).regs q ≡ slice_index x.regs q
 wrote-other x at f to word q n = get_or-set_other x.regs to q word 0 n
 
+-- ---- one more register
+
+-- all but rax, rcx, one more register, flags and offset is the same
+pub record SameTo (work : ℕ) (x y : X86) : Type 0 where
+  pub machine : IsX86 y
+  pub memory : y.memory ≡ x.memory
+  pub rights : y.rights ≡ x.rights
+  pub others : (q : ℕ) → 1 < q → q ≢ work → slice_index y.regs q ≡ slice_index x.regs q
+
+pub to-same : (work : ℕ) (x y : X86) → SameBut x y → SameTo work x y
+to-same work x y h = record { machine = h.machine; memory = h.memory; rights = h.rights; others = λ q high n. h.others q high }
+
+pub to-trans : (work : ℕ) (x y z : X86) → SameTo work x y → SameTo work y z → SameTo work x z
+to-trans work x y z a b = record {
+  machine = b.machine;
+  memory = b.memory ∙ a.memory;
+  rights = b.rights ∙ a.rights;
+  others = λ q h n. b.others q h n ∙ a.others q h n;
+}
+
+pub to-wrote : (x : X86) (at : ℕ) (f : Option Flags) (work word : ℕ) → IsX86 x → word < 2 ^ 64 → SameTo work x (wrote x at f work word)
+to-wrote x at f work word is w = record {
+  machine = wrote-is x at f work word is w;
+  memory = refl;
+  rights = refl;
+  others = λ q h n. get_or-set_other x.regs work q word 0 n;
+}
+
+-- all but one register, flags and offset is the same
+pub record Only (to : ℕ) (x y : X86) : Type 0 where
+  pub machine : IsX86 y
+  pub memory : y.memory ≡ x.memory
+  pub rights : y.rights ≡ x.rights
+  pub others : (q : ℕ) → q ≢ to → slice_index y.regs q ≡ slice_index x.regs q
+
+pub only-none : (to : ℕ) (x : X86) → IsX86 x → Only to x x
+only-none to x is = record { machine = is; memory = refl; rights = refl; others = λ q n. refl }
+
+pub only-wrote : (x : X86) (at : ℕ) (f : Option Flags) (to word : ℕ) → IsX86 x → word < 2 ^ 64 → Only to x (wrote x at f to word)
+only-wrote x at f to word is w = record {
+  machine = wrote-is x at f to word is w;
+  memory = refl;
+  rights = refl;
+  others = λ q n. get_or-set_other x.regs to q word 0 n;
+}
+
+pub only-same : (to : ℕ) (x y : X86) → to < 2 → Only to x y → SameBut x y
+only-same to x y low h = record {
+  machine = h.machine;
+  memory = h.memory;
+  rights = h.rights;
+  others = λ q high. h.others q (λ e. omega (arith, high, low, e));
+}
+
+pub only-to : (work : ℕ) (x y : X86) → Only work x y → SameTo work x y
+only-to work x y h = record { machine = h.machine; memory = h.memory; rights = h.rights; others = λ q high n. h.others q n }
+
 -- ---- registers that pass a test
 
 pub isnt : (test : ℕ → Bool) (q k : ℕ) → test q ≡ true → test k ≡ false → q ≢ k

@@ -1,5 +1,5 @@
 -- The sequence of an instruction does what the instruction does, and that of a test decides the branch.
-use Rattle.std.proofs.Common.{◌≡◌, ℕ, ◌+◌, ◌-◌, ◌*◌, ◌/◌, ◌%◌, ◌^◌, ◌<◌, Bool, true, false, not, List, [], ◌∷◌}
+use Rattle.std.proofs.Common.{◌≡◌, ℕ, ◌+◌, ◌-◌, ◌*◌, ◌/◌, ◌%◌, ◌^◌, ◌<◌, Bool, true, false, not, List, [], ◌∷◌, ◌++◌, ◌≢◌}
 use Rattle.std.proofs.Common.{slice_index, Option, Some, None, ℤ, pos, negsuc, refl, sym, ap, ◌∙◌, subst, arith, inl, inr, cond, if◌then◌else◌}
 use Rattle.std.proofs.lemmas.Bool.{cases_eq}
 use Rattle.std.proofs.lemmas.Nat.{mod_below}
@@ -29,23 +29,24 @@ use Rattle.alpha_cfg.specs.Machine.{takes}
 use Rattle.alpha_cfg.proofs.States.{action_of-operands}
 use Rattle.x86_words.specs.declared.operators.AluOp.TheVariants as alu
 use Rattle.x86_words.specs.declared.insn.X86Insn.{X86Insn}
-use Rattle.x86_words.specs.declared.insn.X86Insn.TheVariants.{Load, Store, AluImm}
+use Rattle.x86_words.specs.declared.insn.X86Insn.TheVariants.{Load, Store, AluImm, Lea}
 use Rattle.x86_words.specs.Encoding.{length_of}
 use Rattle.x86_machine.specs.declared.flags.Flags.{Flags}
 use Rattle.x86_machine.specs.declared.outcome.X86Step.{X86Step}
 use Rattle.x86_machine.specs.declared.outcome.X86Step.TheVariants as steps
 use Rattle.x86_machine.specs.Flags.{alu_flags, cond_holds, AfterTest}
-use Rattle.x86_machine.specs.Machine.{X86, extended, disp_address, x86_outcome}
+use Rattle.x86_machine.specs.Machine.{X86, extended, disp_address, puts, x86_outcome}
 use Rattle.x86_machine.proofs.Orders.{after_test}
-use Rattle.native_steps.specs.Places.{Places, ArePlaces, IsSomewhere, is_somewhere, slot_address, RAX, RCX}
-use Rattle.native_steps.specs.Sequences.{ReadsPlaced, fetch, computed_code, test_code, cond_test, branch_cond, action_code}
+use Rattle.native_steps.specs.Places.{Places, ArePlaces, IsSomewhere, is_somewhere, operand_place, slot_address, RAX, RCX}
+use Rattle.native_steps.specs.Sequences.{ReadsPlaced, source, ready, target, work_reg, sum_code, op_code, load_code, load_around_code, test_code}
+use Rattle.native_steps.specs.Sequences.{cond_test, branch_cond, action_code}
 use Rattle.native_steps.specs.Agreement.{Call, area_span, IsLent, Agrees, EndsInAgreement, DecidesBranch, SimulatesInsn, Tests}
-use Rattle.native_steps.proofs.Straights.{Runs, none-run, then-run}
-use Rattle.native_steps.proofs.Frames.{wrote, SameBut, same-trans, wrote-same, wrote-reads, wrote-other, flags-same, agrees-same}
-use Rattle.native_steps.proofs.Operators.{then-gives}
-use Rattle.native_steps.proofs.Operands.{outside, placed-below, rhs-below, allowed-on, agrees-index, given, fetched, with_reg, reg-below, with-agrees}
-use Rattle.native_steps.proofs.Operands.{with-reads}
-use Rattle.native_steps.proofs.Operands.{fetch-gives, sum-gives, applied-gives, load-gives}
+use Rattle.native_steps.proofs.Straights.{Runs, none-run, then-run, both-run}
+use Rattle.native_steps.proofs.Frames.{wrote, SameBut, same-trans, to-same, wrote-same, wrote-reads, only-same, flags-same, agrees-same}
+use Rattle.native_steps.proofs.Operators.{Gives, after-code, then-gives, last-gives}
+use Rattle.native_steps.proofs.Operands.{outside, placed-below, allowed-on, agrees-index, given, reg-below, rhs-below, readied, source-apart, not-in}
+use Rattle.native_steps.proofs.Operands.{work-below, target-works}
+use Rattle.native_steps.proofs.Computing.{sum-gives, applied-gives, work-works, work-no-second}
 
 -- an access that moved was allowed
 access-moved : (kind : Kind) (may : Bool) (a : ℕ) (s u t : State) → access_outcome kind may a s u ≡ (moves.Moved, t) → (may ≡ true) × (u ≡ t)
@@ -69,16 +70,6 @@ WritesRegister _ = Unit {0}
 module _ (p : Places) (call : Call) (places : ArePlaces p) (s : State) (x : X86) (state : IsState s) (lent : IsLent call s.rights)
     (agrees : Agrees p call s x)
   where
-    -- a register in a temporary
-    abbrev with : ℕ → ℕ → X86
-    with = with_reg p call places s x state lent agrees
-
-    with-agree : (r to : ℕ) → to < 2 → Agrees p call s (with r to)
-    with-agree = with-agrees p call places s x state lent agrees
-
-    with-read : (r to : ℕ) → to < 16 → slice_index (with r to).regs to ≡ read_reg s.regs r
-    with-read = with-reads p call places s x state lent agrees
-
     below : (r : ℕ) → read_reg s.regs r < 2 ^ 64
     below = reg-below p call places s x state lent agrees
 
@@ -88,14 +79,31 @@ module _ (p : Places) (call : Call) (places : ArePlaces p) (s : State) (x : X86)
     abbrev after : ℕ → ℕ → State
     after to word = record s { index = s.index + 1; regs = write_reg s.regs to word }
 
+    -- the quadword at a register and a displacement
+    load-gives : (work base : ℕ) (disp : ℤ) (v a : ℕ) (u : X86) → Agrees p call s u → work < 16 → slice_index u.regs base ≡ v →
+        (v + extended disp) % 2 ^ 64 ≡ a → allowed s.rights.reads a ≡ true → Gives work (Load work base disp ∷ []) u (read s.memory a)
+    load-gives work base disp v a u u-agrees low from e may =
+        let address : disp_address u base disp ≡ a = ap (λ b. (b + extended disp) % 2 ^ 64) from ∙ e in
+        let allows : allowed u.rights.reads (disp_address u base disp) ≡ true =
+        ap (λ (g : Rights). allowed g.reads (disp_address u base disp)) u-agrees.rights
+        ∙ ap (allowed (area_span call ∷ s.rights.reads)) address ∙ allowed-on p call places s.rights.reads a may in
+        let word : read u.memory (disp_address u base disp) ≡ read s.memory a = ap (read u.memory) address ∙ u-agrees.memory a (lent.unread a may) in
+        last-gives work (Load work base disp) u u.flags (read s.memory a) u-agrees.machine low (read-below s.memory a state.memory)
+        (ap (λ t. cond t (puts u (u.at + 7) work (read u.memory (disp_address u base disp))) (steps.Stuck, u)) allows
+        ∙ ap (λ w. (steps.Moved, wrote u (u.at + 7) u.flags work w)) word)
+
     load-comes : (base to : ℕ) (disp : ℤ) → IsSomewhere p base → to < 32 → allowed s.rights.reads (address_of s.regs base disp) ≡ true →
         EndsInAgreement p call (action_code p (actions.Load to base disp)) x (after to (read s.memory (address_of s.regs base disp)))
     load-comes base to disp h k may =
         let a : ℕ = address_of s.regs base disp in
-        given p call places (fetch p base RCX ∷ Load RAX RCX disp ∷ []) s to (read s.memory a) x state lent agrees k (read-below s.memory a state.memory)
-        (fetch-gives p call places s x state lent agrees base RCX (read s.memory a) (Load RAX RCX disp ∷ []) h (omega arith)
-        (load-gives p call places s (with base 1) state lent (with-agree base 1 (omega arith)) disp (read_reg s.regs base) a
-        (with-read base 1 (omega arith)) refl may))
+        let work : ℕ = target p to in
+        let works = target-works p call places to in
+        let b = readied p call places s x state lent agrees base 1 h (omega arith) in
+        let y-same : SameBut x b.end = only-same 1 x b.end (omega arith) b.only in
+        given p call places (load_code p work base disp) s to work (read s.memory a) x state lent agrees k (read-below s.memory a state.memory) works
+        (after-code work (ready p base RCX) (Load work (source p base RCX) disp ∷ []) x b.end (read s.memory a) b.runs (to-same work x b.end y-same)
+        (load-gives work (source p base RCX) disp (read_reg s.regs base) a b.end (agrees-same p call s x b.end places agrees y-same)
+        (work-below p call places to work works) b.has refl may))
 
     load_around-comes : (base to : ℕ) (disp : ℤ) → IsSomewhere p base → to < 32 → allowed s.rights.reads (aligned (address_of s.regs base disp)) ≡ true →
         EndsInAgreement p call (action_code p (actions.LoadAround to base disp)) x (after to (read s.memory (aligned (address_of s.regs base disp))))
@@ -103,15 +111,18 @@ module _ (p : Places) (call : Call) (places : ArePlaces p) (s : State) (x : X86)
         let a : ℕ = address_of s.regs base disp in
         let a-below : a < 2 ^ 64 = mod_below (read_reg s.regs base + extended disp) (2 ^ 64) (omega arith) in
         let word : ℕ = read s.memory (aligned a) in
-        let y : X86 = with base 1 in
-        let y-agrees : Agrees p call s y = with-agree base 1 (omega arith) in
-        let f : Option Flags = Some (alu_flags alu.Add (slice_index y.regs 1) (extended disp)) in
-        let sum : ℕ = (slice_index y.regs 1 + extended disp) % 2 ^ 64 in
-        let sum-is : sum ≡ a = ap (λ w. (w + extended disp) % 2 ^ 64) (with-read base 1 (omega arith)) in
-        let sum-below : sum < 2 ^ 64 = mod_below (slice_index y.regs 1 + extended disp) (2 ^ 64) (omega arith) in
-        let z : X86 = wrote y (y.at + 7) f 1 sum in
-        let z-same : SameBut y z = wrote-same y (y.at + 7) f 1 sum y-agrees.machine (omega arith) sum-below in
-        let z-reads : slice_index z.regs 1 ≡ sum = wrote-reads y (y.at + 7) f 1 sum y-agrees.machine (omega arith) in
+        let work : ℕ = target p to in
+        let works = target-works p call places to in
+        let q : ℕ = source p base RCX in
+        let b = readied p call places s x state lent agrees base 1 h (omega arith) in
+        let y : X86 = b.end in
+        let y-same : SameBut x y = only-same 1 x y (omega arith) b.only in
+        let sum : ℕ = (slice_index y.regs q + extended disp) % 2 ^ 64 in
+        let sum-is : sum ≡ a = ap (λ w. (w + extended disp) % 2 ^ 64) b.has in
+        let sum-below : sum < 2 ^ 64 = mod_below (slice_index y.regs q + extended disp) (2 ^ 64) (omega arith) in
+        let z : X86 = wrote y (y.at + 7) y.flags 1 sum in
+        let z-same : SameBut y z = wrote-same y (y.at + 7) y.flags 1 sum y-same.machine (omega arith) sum-below in
+        let z-reads : slice_index z.regs 1 ≡ sum = wrote-reads y (y.at + 7) y.flags 1 sum y-same.machine (omega arith) in
         let g : Option Flags = Some (alu_flags alu.And (slice_index z.regs 1) (extended (negsuc 7))) in
         let masked : ℕ = word_of ops.Band (slice_index z.regs 1) (extended (negsuc 7)) in
         let masked-below : masked < 2 ^ 64 =
@@ -120,14 +131,14 @@ module _ (p : Places) (call : Call) (places : ArePlaces p) (s : State) (x : X86)
         let u : X86 = wrote z (z.at + 7) g 1 masked in
         let u-same : SameBut z u = wrote-same z (z.at + 7) g 1 masked z-same.machine (omega arith) masked-below in
         let u-reads : slice_index u.regs 1 ≡ masked = wrote-reads z (z.at + 7) g 1 masked z-same.machine (omega arith) in
-        let u-agrees : Agrees p call s u = agrees-same p call s y u places y-agrees (same-trans y z u z-same u-same) in
-        let rest : List X86Insn = Load RAX RCX (pos 0) ∷ [] in
-        given p call places (fetch p base RCX ∷ AluImm alu.Add RCX disp ∷ AluImm alu.And RCX (negsuc 7) ∷ rest) s to word x state lent agrees k
-        (read-below s.memory (aligned a) state.memory)
-        (fetch-gives p call places s x state lent agrees base RCX word (AluImm alu.Add RCX disp ∷ AluImm alu.And RCX (negsuc 7) ∷ rest) h (omega arith)
-        (then-gives (AluImm alu.Add RCX disp) (AluImm alu.And RCX (negsuc 7) ∷ rest) y f 1 sum word y-agrees.machine (omega arith) sum-below refl
-        (then-gives (AluImm alu.And RCX (negsuc 7)) rest z g 1 masked word z-same.machine (omega arith) masked-below refl
-        (load-gives p call places s u state lent u-agrees (pos 0) masked (aligned a) u-reads (no-more masked masked-below ∙ masked-is) may))))
+        let u-agrees : Agrees p call s u = agrees-same p call s x u places agrees (same-trans x y u y-same (same-trans y z u z-same u-same)) in
+        let last : List X86Insn = Load work RCX (pos 0) ∷ [] in
+        given p call places (load_around_code p work base disp) s to work word x state lent agrees k (read-below s.memory (aligned a) state.memory) works
+        (after-code work (ready p base RCX) (Lea RCX q disp ∷ AluImm alu.And RCX (negsuc 7) ∷ last) x y word b.runs (to-same work x y y-same)
+        (then-gives work (Lea RCX q disp) (AluImm alu.And RCX (negsuc 7) ∷ last) y y.flags 1 sum word y-same.machine (omega arith) sum-below refl
+        (then-gives work (AluImm alu.And RCX (negsuc 7)) last z g 1 masked word z-same.machine (omega arith) masked-below refl
+        (load-gives work 1 (pos 0) masked (aligned a) u u-agrees (work-below p call places to work works) u-reads
+        (no-more masked masked-below ∙ masked-is) may))))
 
     -- ---- a store
 
@@ -138,29 +149,30 @@ module _ (p : Places) (call : Call) (places : ArePlaces p) (s : State) (x : X86)
         let a : ℕ = address_of s.regs base disp in
         let a-below : a < 2 ^ 64 = mod_below (read_reg s.regs base + extended disp) (2 ^ 64) (omega arith) in
         let word : ℕ = read_reg s.regs from in
-        let y : X86 = with base 1 in
-        let y-agrees : Agrees p call s y = with-agree base 1 (omega arith) in
-        let z : X86 = with_reg p call places s y state lent y-agrees from 0 in
-        let z-agrees : Agrees p call s z = with-agrees p call places s y state lent y-agrees from 0 (omega arith) in
-        let rax : slice_index z.regs 0 ≡ word = with-reads p call places s y state lent y-agrees from 0 (omega arith) in
-        let rcx : slice_index z.regs 1 ≡ read_reg s.regs base =
-        wrote-other y (y.at + length_of (fetch p from 0)) y.flags 0 word 1 (λ e. omega (arith, e)) ∙ with-read base 1 (omega arith) in
-        let address : disp_address z RCX disp ≡ a = ap (λ b. (b + extended disp) % 2 ^ 64) rcx in
-        let allows : allowed z.rights.writes (disp_address z RCX disp) ≡ true =
-        ap (λ (g : Rights). allowed g.writes (disp_address z RCX disp)) z-agrees.rights
+        let q : ℕ = source p base RCX in
+        let f : ℕ = source p from RAX in
+        let store : X86Insn = Store q disp f in
+        let first = readied p call places s x state lent agrees base 1 k (omega arith) in
+        let y : X86 = first.end in
+        let y-agrees : Agrees p call s y = agrees-same p call s x y places agrees (only-same 1 x y (omega arith) first.only) in
+        let second = readied p call places s y state lent y-agrees from 0 h (omega arith) in
+        let z : X86 = second.end in
+        let z-agrees : Agrees p call s z = agrees-same p call s y z places y-agrees (only-same 0 y z (omega arith) second.only) in
+        let q-apart : q ≢ 0 = source-apart (operand_place p base) 1 0 (not-in p call places base 0 refl) (λ e. omega (arith, e)) in
+        let at_base : slice_index z.regs q ≡ read_reg s.regs base = second.only.others q q-apart ∙ first.has in
+        let address : disp_address z q disp ≡ a = ap (λ b. (b + extended disp) % 2 ^ 64) at_base in
+        let allows : allowed z.rights.writes (disp_address z q disp) ≡ true =
+        ap (λ (g : Rights). allowed g.writes (disp_address z q disp)) z-agrees.rights
         ∙ ap (allowed (area_span call ∷ s.rights.writes)) address ∙ allowed-on p call places s.rights.writes a may in
         let stored : ℕ → ℕ → X86Step × X86 = λ b w. (steps.Moved, record z { at = z.at + 7; memory = write z.memory b w }) in
         let end : X86 = record z { at = z.at + 7; memory = write z.memory a word } in
-        let does : x86_outcome z (z.at + 7) (Store RCX disp RAX) ≡ (steps.Moved, end) =
-        ap (λ t. cond t (stored (disp_address z RCX disp) (slice_index z.regs 0)) (steps.Stuck, z)) allows
-        ∙ ap (λ b. stored b (slice_index z.regs 0)) address ∙ ap (stored a) rax in
-        let last : Runs (Store RCX disp RAX ∷ []) z end = then-run (Store RCX disp RAX) [] z end end does refl (none-run end) in
-        let second : Runs (fetch p from RAX ∷ Store RCX disp RAX ∷ []) y end =
-        then-run (fetch p from RAX) (Store RCX disp RAX ∷ []) y z end
-        (fetched p call places s y lent y-agrees from RAX (y.at + length_of (fetch p from RAX)) h) refl last in
+        let does : x86_outcome z (z.at + 7) store ≡ (steps.Moved, end) =
+        ap (λ t. cond t (stored (disp_address z q disp) (slice_index z.regs f)) (steps.Stuck, z)) allows
+        ∙ ap (λ b. stored b (slice_index z.regs f)) address ∙ ap (stored a) second.has in
+        let last : Runs (store ∷ []) z end = then-run store [] z end end does refl (none-run end) in
         let ran : Runs (action_code p (actions.Store from base disp)) x end =
-        then-run (fetch p base RCX) (fetch p from RAX ∷ Store RCX disp RAX ∷ []) x y end
-        (fetched p call places s x lent agrees base RCX (x.at + length_of (fetch p base RCX)) k) refl second in
+        both-run (ready p base RCX) (ready p from RAX ++ store ∷ []) x y end first.runs
+        (both-run (ready p from RAX) (store ∷ []) y z end second.runs last) in
         let clear = lent.unwritten a may in
         record {
           end = end;
@@ -198,25 +210,27 @@ module _ (p : Places) (call : Call) (places : ArePlaces p) (s : State) (x : X86)
 
     -- the test leaves flags, and they decide
     decides : (cond : Cond) (r : ℕ) (f : ℕ → Flags) → IsSomewhere p r →
-        ((y : X86) → x86_outcome y (y.at + length_of (cond_test cond)) (cond_test cond)
-        ≡ (steps.Moved, record y { at = y.at + length_of (cond_test cond); flags = Some (f (slice_index y.regs 0)) })) →
+        ((y : X86) (q : ℕ) → x86_outcome y (y.at + length_of (cond_test cond q)) (cond_test cond q)
+        ≡ (steps.Moved, record y { at = y.at + length_of (cond_test cond q); flags = Some (f (slice_index y.regs q)) })) →
         cond_holds (branch_cond cond) (f (read_reg s.regs r)) ≡ takes cond (read_reg s.regs r) →
         DecidesBranch p call cond r x s
     decides cond r f h does says =
-        let y : X86 = with r 0 in
-        let y-agrees : Agrees p call s y = with-agree r 0 (omega arith) in
-        let flags : Flags = f (slice_index y.regs 0) in
-        let end : X86 = record y { at = y.at + length_of (cond_test cond); flags = Some flags } in
+        let q : ℕ = source p r RAX in
+        let test : X86Insn = cond_test cond q in
+        let b = readied p call places s x state lent agrees r 0 h (omega arith) in
+        let y : X86 = b.end in
+        let y-agrees : Agrees p call s y = agrees-same p call s x y places agrees (only-same 0 x y (omega arith) b.only) in
+        let flags : Flags = f (slice_index y.regs q) in
+        let end : X86 = record y { at = y.at + length_of test; flags = Some flags } in
         let ran : Runs (test_code p (When cond r)) x end =
-        then-run (fetch p r RAX) (cond_test cond ∷ []) x y end (fetched p call places s x lent agrees r RAX (x.at + length_of (fetch p r RAX)) h) refl
-        (then-run (cond_test cond) [] y end end (does y) refl (none-run end)) in
+        both-run (ready p r RAX) (test ∷ []) x y end b.runs (then-run test [] y end end (does y q) refl (none-run end)) in
         let end-agrees : Agrees p call s end =
-        agrees-same p call s y end places y-agrees (flags-same y (y.at + length_of (cond_test cond)) (Some flags) y-agrees.machine) in
+        agrees-same p call s y end places y-agrees (flags-same y (y.at + length_of test) (Some flags) y-agrees.machine) in
         record {
           comes = record { end = end; runs = ran.runs; at = ran.at; agrees = end-agrees };
           flags = flags;
           set = refl;
-          says = ap (λ w. cond_holds (branch_cond cond) (f w)) (with-read r 0 (omega arith)) ∙ says;
+          says = ap (λ w. cond_holds (branch_cond cond) (f w)) b.has ∙ says;
         }
 
     -- the flags of a word and itself, and those of its bit 0
@@ -231,14 +245,14 @@ module _ (p : Places) (call : Call) (places : ArePlaces p) (s : State) (x : X86)
       says = after_test (read_reg s.regs r) (below r)
 
       tested : (cond : Cond) → DecidesBranch p call cond r x s
-      tested LowClear = decides LowClear r lowest h (λ y. refl) says.low
-      tested Zero = decides Zero r whole h (λ y. refl) says.equal
-      tested Negative = decides Negative r whole h (λ y. refl) says.sign
-      tested NotPositive = decides NotPositive r whole h (λ y. refl) says.less_or_equal
-      tested LowSet = decides LowSet r lowest h (λ y. refl) (ap not says.low)
-      tested NotZero = decides NotZero r whole h (λ y. refl) (ap not says.equal)
-      tested NotNegative = decides NotNegative r whole h (λ y. refl) (ap not says.sign)
-      tested Positive = decides Positive r whole h (λ y. refl) (ap not says.less_or_equal)
+      tested LowClear = decides LowClear r lowest h (λ y q. refl) says.low
+      tested Zero = decides Zero r whole h (λ y q. refl) says.equal
+      tested Negative = decides Negative r whole h (λ y q. refl) says.sign
+      tested NotPositive = decides NotPositive r whole h (λ y q. refl) says.less_or_equal
+      tested LowSet = decides LowSet r lowest h (λ y q. refl) (ap not says.low)
+      tested NotZero = decides NotZero r whole h (λ y q. refl) (ap not says.equal)
+      tested NotNegative = decides NotNegative r whole h (λ y q. refl) (ap not says.sign)
+      tested Positive = decides Positive r whole h (λ y q. refl) (ap not says.less_or_equal)
 
     -- ---- each action
 
@@ -249,14 +263,19 @@ module _ (p : Places) (call : Call) (places : ArePlaces p) (s : State) (x : X86)
     acts : (e : Action) (jump : Option ℕ) (t : State) → HasOperands e → WritesRegister e → ReadsPlaced p e → action_outcome e jump s ≡ (moves.Moved, t) →
         EndsInAgreement p call (action_code p e) x t
     acts (actions.Compute to (Sum base disp)) jump t h w there e =
+        let work : ℕ = target p to in
+        let works = target-works p call places to in
         subst (EndsInAgreement p call (action_code p (actions.Compute to (Sum base disp))) x) (ap (λ q. q.1) e)
-        (given p call places (computed_code p (Sum base disp)) s to (address_of s.regs base disp) x state lent agrees w
-        (mod_below (read_reg s.regs base + extended disp) (2 ^ 64) (omega arith)) (sum-gives p call places s x state lent agrees base disp there))
+        (given p call places (sum_code p work base disp) s to work (address_of s.regs base disp) x state lent agrees w
+        (mod_below (read_reg s.regs base + extended disp) (2 ^ 64) (omega arith)) works
+        (sum-gives p call places s x state lent agrees to work works base disp there h.1))
     acts (actions.Compute to (Applied op left right)) jump t h w there e =
+        let work : ℕ = work_reg p op to right in
+        let works = work-works p call places op to right in
         subst (EndsInAgreement p call (action_code p (actions.Compute to (Applied op left right))) x) (ap (λ q. q.1) e)
-        (given p call places (computed_code p (Applied op left right)) s to (word_computed s.regs (Applied op left right)) x state lent agrees w
-        (word_of-below op (read_reg s.regs left) (rhs_word s.regs right) (below left) (rhs-below p call places s x state lent agrees right h.1))
-        (applied-gives p call places s x state lent agrees op left right there.0 there.1 h.1))
+        (given p call places (op_code p op work left right) s to work (word_computed s.regs (Applied op left right)) x state lent agrees w
+        (word_of-below op (read_reg s.regs left) (rhs_word s.regs right) (below left) (rhs-below p call places s x state lent agrees right h.1)) works
+        (applied-gives p call places s x state lent agrees to work works op left right there.0 there.1 h.1 (work-no-second p call places op to right)))
     acts (actions.Load to base disp) jump t h w there e =
         let a : ℕ = address_of s.regs base disp in
         let m = access-moved _ (allowed s.rights.reads a) a s (after to (read s.memory a)) t e in

@@ -5,3 +5,4 @@ pub mod Operands
 pub mod Instructions
 pub mod Assigning
 pub mod Encodable
+pub mod Computing

@@ -1,39 +1,34 @@
 -- Operands come from their places into temporaries, and results go to theirs.
-use Rattle.std.proofs.Common.{◌≡◌, ◌≢◌, ℕ, ◌+◌, ◌-◌, ◌*◌, ◌/◌, ◌%◌, ◌^◌, ◌<◌, ◌≤◌, true, false, ◌||◌, eqb, List, [], ◌∷◌, ◌++◌, length}
-use Rattle.std.proofs.Common.{slice_index, slice_set, Some, ℤ, refl, sym, ap, ◌∙◌, subst, arith, inl, inr, cond}
-use Rattle.std.proofs.lemmas.Bool.{cases_eq, cases_lt, ne_eqb, le-leb, lt-ltb, eq-eqb}
+use Rattle.std.proofs.Common.{◌≡◌, ◌≢◌, ◌⊎◌, ℕ, ◌+◌, ◌-◌, ◌*◌, ◌/◌, ◌%◌, ◌^◌, ◌<◌, ◌≤◌, true, false, ◌||◌, eqb, List, [], ◌∷◌, ◌++◌, length}
+use Rattle.std.proofs.Common.{slice_index, slice_set, refl, sym, ap, ◌∙◌, subst, arith, inl, inr, cond}
+use Rattle.std.proofs.lemmas.Bool.{cases_Bool, cases_eq, cases_lt, ne_eqb, le-leb, lt-ltb, eq-eqb, eqb-true, eqb-false}
 use Rattle.std.proofs.lemmas.List.{get_or-set_same, get_or-set_other, get_or_past}
 use Rattle.std.proofs.Math.Bool.{or-true}
-use Rattle.std.proofs.lemmas.Nat.{mod_below}
-use Rattle.word_ops.specs.declared.Op.{Op}
 use Rattle.word_ops.specs.Memory.{Memory, read, write}
 use Rattle.word_ops.specs.Rights.{Rights, in_span, allowed}
 use Rattle.word_ops.specs.Registers.{read_reg, write_reg}
-use Rattle.word_ops.specs.Words.{word_of}
-use Rattle.word_ops.proofs.Memories.{read-write_same, read-write_other, IsMemory-write, read-below}
+use Rattle.word_ops.proofs.Memories.{read-write_same, read-write_other, IsMemory-write}
 use Rattle.word_ops.proofs.RegisterWords.{read_reg-below}
 use Rattle.alpha_words.specs.declared.insn.Rhs.{Rhs}
 use Rattle.alpha_words.specs.declared.insn.Rhs.TheVariants.{Reg, Lit}
 use Rattle.alpha_words.specs.Encoding.{IsRhs}
-use Rattle.alpha_cfg.specs.Actions.{Sum, Applied}
-use Rattle.alpha_cfg.specs.Machine.{State, IsState, rhs_word, address_of}
-use Rattle.x86_words.specs.declared.operators.AluOp.TheVariants as alu
+use Rattle.alpha_cfg.specs.Machine.{State, IsState, rhs_word}
 use Rattle.x86_words.specs.declared.insn.X86Insn.{X86Insn}
-use Rattle.x86_words.specs.declared.insn.X86Insn.TheVariants.{Mov, MovZero, Load, Store, AluImm}
+use Rattle.x86_words.specs.declared.insn.X86Insn.TheVariants.{Mov, MovZero, Store}
 use Rattle.x86_words.specs.Encoding.{length_of}
 use Rattle.x86_machine.specs.declared.outcome.X86Step.{X86Step}
 use Rattle.x86_machine.specs.declared.outcome.X86Step.TheVariants as steps
-use Rattle.x86_machine.specs.Flags.{alu_flags}
 use Rattle.x86_machine.specs.Machine.{X86, IsX86, extended, disp_address, puts, x86_outcome}
 use Rattle.native_steps.specs.declared.places.Place.{Place}
 use Rattle.native_steps.specs.declared.places.Place.TheVariants.{Register, Slot, Nowhere}
-use Rattle.native_steps.specs.Places.{Places, ArePlaces, IsSomewhere, is_somewhere, place_at, slot, slot_address, is_free, RAX, RCX, FUEL, AREA}
-use Rattle.native_steps.specs.Sequences.{RhsIsPlaced, fetch_place, keep_place, fetch, keep, fetch_rhs, op_code, computed_code}
+use Rattle.native_steps.specs.Places.{Places, ArePlaces, IsSomewhere, is_somewhere, is_in, place_at, operand_place, slot, slot_address, is_free, RAX, FUEL}
+use Rattle.native_steps.specs.Places.{AREA}
+use Rattle.native_steps.specs.Sequences.{RhsIsPlaced, fetch_place, keep_place, fetch, keep, fetch_rhs, source_at, source, brought, ready, target, settle}
 use Rattle.native_steps.specs.Agreement.{Call, area_span, IsLent, Agrees, EndsInAgreement}
 use Rattle.native_steps.proofs.Straights.{Runs, none-run, then-run, both-run}
 use Rattle.native_steps.proofs.Frames.{wrote, SameBut, wrote-same, wrote-is, wrote-reads, wrote-other, agrees-same}
-use Rattle.native_steps.proofs.Frames.{isnt, free-below}
-use Rattle.native_steps.proofs.Operators.{Gives, gives-as, then-gives, last-gives, op-gives}
+use Rattle.native_steps.proofs.Frames.{Only, only-none, only-wrote, isnt, free-below}
+use Rattle.native_steps.proofs.Operators.{Gives}
 
 -- ---- the area
 
@@ -54,7 +49,93 @@ apart-slot x e = cc
 differ : (p : Places) (k r : ℕ) (a b : Place) → (a ≡ b → ⊥) → place_at p k ≡ a → place_at p r ≡ b → k ≢ r
 differ p k r a b apart e f same = apart (sym e ∙ ap (place_at p) same ∙ f)
 
+-- ---- places of operands
+
+-- instructions bring a word to a register; at most one register changes
+pub record Brings (code : List X86Insn) (to at word : ℕ) (x : X86) : Type 0 where
+  pub end : X86
+  pub runs : Runs code x end
+  pub only : Only to x end
+  pub has : slice_index end.regs at ≡ word
+
+pub in-is : (o : Place) (q : ℕ) → is_in o q ≡ true → o ≡ Register q
+in-is (Register own) q h = ap Register (eqb-true own q h)
+in-is Slot q h = let wrong : false ≡ true = h in absurd cc
+in-is Nowhere q h = let wrong : false ≡ true = h in absurd cc
+
+pub is-in : (o : Place) (q : ℕ) → o ≡ Register q → is_in o q ≡ true
+is-in o q e = ap (λ k. is_in k q) e ∙ eq-eqb q q refl
+
+-- where a word isn't, it is brought to the temporary
+source-away : (o : Place) (temp : ℕ) → is_in o (source_at o temp) ≡ false → source_at o temp ≡ temp
+source-away (Register q) temp h = let wrong : true ≡ false = sym (eq-eqb q q refl) ∙ h in absurd cc
+source-away Slot temp h = refl
+source-away Nowhere temp h = refl
+
+-- what isn't in a register is read elsewhere
+pub source-apart : (o : Place) (temp q : ℕ) → is_in o q ≡ false → temp ≢ q → source_at o temp ≢ q
+source-apart (Register own) temp q h n = eqb-false own q h
+source-apart Slot temp q h n = n
+source-apart Nowhere temp q h n = n
+
 module _ (p : Places) (call : Call) (places : ArePlaces p) where
+  -- an operand's place that is a register is one of 31
+  pub place-is : (r q : ℕ) → operand_place p r ≡ Register q → (r ≢ 31) × (place_at p r ≡ Register q)
+  place-is r q e = elim (cases_eq r 31) [
+    | inl same ↦
+        let none : operand_place p r ≡ Nowhere = ap (λ b. cond b Nowhere (place_at p r)) (eq-eqb r 31 same) in
+        let wrong : Nowhere ≡ Register q = sym none ∙ e in absurd cc
+    | inr n ↦ (n, sym (ap (λ b. cond b Nowhere (place_at p r)) (ne_eqb r 31 n)) ∙ e)
+  ]
+
+  -- it is free
+  pub place-free : (r q : ℕ) → operand_place p r ≡ Register q → is_free q ≡ true
+  place-free r q e = places.free r q (place-is r q e).1
+
+  -- no operand is in a register that isn't free
+  pub not-in : (r q : ℕ) → is_free q ≡ false → is_in (operand_place p r) q ≡ false
+  not-in r q h = elim (cases_Bool (is_in (operand_place p r) q)) [
+    | inl there ↦ let wrong : true ≡ false = sym (place-free r q (in-is (operand_place p r) q there)) ∙ h in absurd cc
+    | inr away ↦ away
+  ]
+
+  -- where an operand is read: a temporary, or a place
+  source-in : (temp : ℕ) (o : Place) → temp < 2 → ((q : ℕ) → o ≡ Register q → is_free q ≡ true) →
+      (source_at o temp ≡ temp) ⊎ (is_free (source_at o temp) ≡ true)
+  source-in temp (Register q) low h = inr (h q refl)
+  source-in temp Slot low h = inl refl
+  source-in temp Nowhere low h = inl refl
+
+  pub source-is : (r temp : ℕ) → temp < 2 → (source p r temp ≡ temp) ⊎ (is_free (source p r temp) ≡ true)
+  source-is r temp low = source-in temp (operand_place p r) low (place-free r)
+
+  pub source-below : (r temp : ℕ) → temp < 2 → source p r temp < 16
+  source-below r temp low = elim (source-is r temp low) [
+    | inl e ↦ omega (arith, e, low)
+    | inr f ↦ free-below (source p r temp) f
+  ]
+
+  -- the register that a word is computed in: rax, or the place of its Alpha register
+  abbrev pub IsWork : ℕ → ℕ → Type 0
+  IsWork r work = (work ≡ 0) ⊎ (operand_place p r ≡ Register work)
+
+  pub work-below : (r work : ℕ) → IsWork r work → work < 16
+  work-below r work h = elim h [ inl e ↦ omega (arith, e) | inr e ↦ free-below work (place-free r work e) ]
+
+  pub work-apart : (r work : ℕ) → IsWork r work → 1 ≢ work
+  work-apart r work h = elim h [
+    | inl e ↦ λ f. omega (arith, e, f)
+    | inr e ↦ λ f. isnt is_free work 1 (place-free r work e) refl (sym f)
+  ]
+
+  target-in : (o : Place) → (source_at o RAX ≡ 0) ⊎ (o ≡ Register (source_at o RAX))
+  target-in (Register q) = inr refl
+  target-in Slot = inl refl
+  target-in Nowhere = inl refl
+
+  pub target-works : (r : ℕ) → IsWork r (target p r)
+  target-works r = target-in (operand_place p r)
+
   pub slot-is : (rights : Rights) (r : ℕ) → IsLent call rights → r < 31 → (call.area + extended (slot r)) % 2 ^ 64 ≡ slot_address call.area r
   slot-is rights r lent h = let top : call.area + 8 * 31 ≤ 2 ^ 64 = lent.span.to in omega (arith, top, h)
 
@@ -123,10 +204,10 @@ module _ (p : Places) (call : Call) (places : ArePlaces p) where
           ∙ ap (λ b. (steps.Moved, wrote x next x.flags to (cond b 0 (slice_index s.regs r)))) (sym other)
     ]
 
-    pub fetched-rhs : (rhs : Rhs) (next : ℕ) → RhsIsPlaced p rhs →
-        x86_outcome x next (fetch_rhs p rhs) ≡ (steps.Moved, wrote x next x.flags RCX (rhs_word s.regs rhs))
-    fetched-rhs (Reg r) next h = fetched r RCX next h
-    fetched-rhs (Lit n) next h = refl
+    pub fetched-rhs : (rhs : Rhs) (to next : ℕ) → RhsIsPlaced p rhs →
+        x86_outcome x next (fetch_rhs p rhs to) ≡ (steps.Moved, wrote x next x.flags to (rhs_word s.regs rhs))
+    fetched-rhs (Reg r) to next h = fetched r to next h
+    fetched-rhs (Lit n) to next h = refl
 
   -- ---- rax to its place
 
@@ -250,15 +331,53 @@ module _ (p : Places) (call : Call) (places : ArePlaces p) where
             (kept-place (place_at p r) (omega (arith, h, n)) refl)
       ]
 
-  -- a word in rax, and then in its Alpha register
-  pub given : (code : List X86Insn) (s : State) (r word : ℕ) (x : X86) → IsState s → IsLent call s.rights → Agrees p call s x → r < 32 → word < 2 ^ 64 →
-      Gives code x word →
-      EndsInAgreement p call (code ++ keep p r) x (record s { index = s.index + 1; regs = write_reg s.regs r word })
-  given code s r word x state lent agrees h below g =
-      let k = kept s r word g.end state lent below (agrees-same p call s x g.end places agrees g.same) g.brings h in
-      let rest : Runs (keep p r) g.end k.end = record { runs = k.runs; at = k.at } in
-      let ran : Runs (code ++ keep p r) x k.end = both-run code (keep p r) x g.end k.end g.runs rest in
-      record { end = k.end; runs = ran.runs; at = ran.at; agrees = k.agrees }
+  -- ---- a result in its place
+
+  -- a word in its register, or in rax, and then in the place of its Alpha register
+  pub given : (code : List X86Insn) (s : State) (r work word : ℕ) (x : X86) → IsState s → IsLent call s.rights → Agrees p call s x → r < 32 → word < 2 ^ 64 →
+      IsWork r work → Gives work code x word →
+      EndsInAgreement p call (code ++ settle p r work) x (record s { index = s.index + 1; regs = write_reg s.regs r word })
+  given code s r work word x state lent agrees h below works g = elim works [
+    | inl zero ↦
+        let same : SameBut x g.end =
+        record {
+          machine = g.same.machine;
+          memory = g.same.memory;
+          rights = g.same.rights;
+          others = λ q high. g.same.others q high (λ e. omega (arith, high, zero, e));
+        } in
+        let k = kept s r word g.end state lent below (agrees-same p call s x g.end places agrees same) (ap (slice_index g.end.regs) (sym zero) ∙ g.brings) h in
+        let rest : Runs (keep p r) g.end k.end = record { runs = k.runs; at = k.at } in
+        let ran : Runs (code ++ keep p r) x k.end = both-run code (keep p r) x g.end k.end g.runs rest in
+        let away : is_in (operand_place p r) work ≡ false = ap (is_in (operand_place p r)) zero ∙ not-in r 0 refl in
+        subst (λ b. EndsInAgreement p call (code ++ cond b [] (keep p r)) x (record s { index = s.index + 1; regs = write_reg s.regs r word })) (sym away)
+        (record { end = k.end; runs = ran.runs; at = ran.at; agrees = k.agrees })
+    | inr at_r ↦
+        let i = place-is r work at_r in
+        let there : is_in (operand_place p r) work ≡ true = is-in (operand_place p r) work at_r in
+        let y : X86 = g.end in
+        let u : X86 = wrote x y.at x.flags work word in
+        let low : r < 31 = let n = i.0 in omega (arith, h, n) in
+        let u-agrees = kept-in-register s r word state low x y.at work below agrees i.1 in
+        let u-reads : slice_index u.regs work ≡ word = wrote-reads x y.at x.flags work word agrees.machine (free-below work (place-free r work at_r)) in
+        let same : SameBut u y = record {
+          machine = g.same.machine;
+          memory = g.same.memory;
+          rights = g.same.rights;
+          others = λ q high. elim (cases_eq q work) [
+            | inl e ↦ ap (slice_index y.regs) e ∙ g.brings ∙ sym u-reads ∙ ap (slice_index u.regs) (sym e)
+            | inr n ↦ g.same.others q high n ∙ sym (wrote-other x y.at x.flags work word q n)
+          ];
+        } in
+        let other_r : eqb r 31 ≡ false = ne_eqb r 31 i.0 in
+        let t : State = record s { index = s.index + 1; regs = slice_set s.regs r word } in
+        let ran : Runs (code ++ []) x y = both-run code [] x y y g.runs (none-run y) in
+        let ends : EndsInAgreement p call (code ++ []) x t =
+        record { end = y; runs = ran.runs; at = ran.at; agrees = agrees-same p call t u y places u-agrees same } in
+        subst (λ b. EndsInAgreement p call (code ++ settle p r work) x (record s { index = s.index + 1; regs = cond b s.regs (slice_set s.regs r word) }))
+        (sym other_r)
+        (subst (λ b. EndsInAgreement p call (code ++ cond b [] (keep p r)) x t) (sym there) ends)
+  ]
 
   -- ---- words
 
@@ -279,55 +398,43 @@ module _ (p : Places) (call : Call) (places : ArePlaces p) where
     pub with-reads : (r to : ℕ) → to < 16 → slice_index (with_reg r to).regs to ≡ read_reg s.regs r
     with-reads r to low = wrote-reads x (x.at + length_of (fetch p r to)) x.flags to (read_reg s.regs r) agrees.machine low
 
-    -- a register is fetched, and the rest goes on with it
-    pub fetch-gives : (r to word : ℕ) (rest : List X86Insn) → IsSomewhere p r → to < 2 → Gives rest (with_reg r to) word → Gives (fetch p r to ∷ rest) x word
-    fetch-gives r to word rest h low g =
-        then-gives (fetch p r to) rest x x.flags to (read_reg s.regs r) word agrees.machine low (reg-below r)
-        (fetched s x lent agrees r to (x.at + length_of (fetch p r to)) h) g
-
-    pub sum-gives : (base : ℕ) (disp : ℤ) → IsSomewhere p base → Gives (computed_code p (Sum base disp)) x (address_of s.regs base disp)
-    sum-gives base disp h =
-        let y : X86 = with_reg base 0 in
-        let y-is : IsX86 y = (with-same base 0 (omega arith)).machine in
-        let sum : ℕ → ℕ = λ w. (w + extended disp) % 2 ^ 64 in
-        fetch-gives base 0 (address_of s.regs base disp) (AluImm alu.Add RAX disp ∷ []) h (omega arith)
-        (gives-as (AluImm alu.Add RAX disp ∷ []) y (sum (slice_index y.regs 0)) (address_of s.regs base disp) (ap sum (with-reads base 0 (omega arith)))
-        (last-gives (AluImm alu.Add RAX disp) y (Some (alu_flags alu.Add (slice_index y.regs 0) (extended disp))) (sum (slice_index y.regs 0)) y-is
-        (mod_below (slice_index y.regs 0 + extended disp) (2 ^ 64) (omega arith)) refl))
-
     pub rhs-below : (rhs : Rhs) → IsRhs rhs → rhs_word s.regs rhs < 2 ^ 64
     rhs-below (Reg r) h = reg-below r
     rhs-below (Lit n) h = omega (arith, h)
 
-    pub applied-gives : (op : Op) (left : ℕ) (right : Rhs) → IsSomewhere p left → RhsIsPlaced p right → IsRhs right →
-        Gives (computed_code p (Applied op left right)) x (word_of op (read_reg s.regs left) (rhs_word s.regs right))
-    applied-gives op left right h there k =
-        let v : ℕ = read_reg s.regs left in
-        let w : ℕ = rhs_word s.regs right in
-        let y : X86 = with_reg left 0 in
-        let y-is : IsX86 y = (with-same left 0 (omega arith)).machine in
-        let after_y : ℕ = y.at + length_of (fetch_rhs p right) in
-        let z : X86 = wrote y after_y y.flags 1 w in
-        let z-is : IsX86 z = wrote-is y after_y y.flags 1 w y-is (rhs-below right k) in
-        let left-is : slice_index z.regs 0 ≡ v = wrote-other y after_y y.flags 1 w 0 (λ e. omega (arith, e)) ∙ with-reads left 0 (omega arith) in
-        let right-is : slice_index z.regs 1 ≡ w = wrote-reads y after_y y.flags 1 w y-is (omega arith) in
-        let word : word_of op (slice_index z.regs 0) (slice_index z.regs 1) ≡ word_of op v w =
-        ap (λ n. word_of op n (slice_index z.regs 1)) left-is ∙ ap (word_of op v) right-is in
-        fetch-gives left 0 (word_of op v w) (fetch_rhs p right ∷ op_code op) h (omega arith)
-        (then-gives (fetch_rhs p right) (op_code op) y y.flags 1 w (word_of op v w) y-is (omega arith) (rhs-below right k)
-        (fetched-rhs s y lent (with-agrees left 0 (omega arith)) right after_y there)
-        (gives-as (op_code op) z (word_of op (slice_index z.regs 0) (slice_index z.regs 1)) (word_of op v w) word (op-gives z z-is op)))
+    -- ---- operands where they are
 
-    -- the quadword at rcx and a displacement
-    pub load-gives : (disp : ℤ) (v a : ℕ) → slice_index x.regs 1 ≡ v → (v + extended disp) % 2 ^ 64 ≡ a → allowed s.rights.reads a ≡ true →
-        Gives (Load RAX RCX disp ∷ []) x (read s.memory a)
-    load-gives disp v a rcx e may =
-        let address : disp_address x RCX disp ≡ a = ap (λ b. (b + extended disp) % 2 ^ 64) rcx ∙ e in
-        let allows : allowed x.rights.reads (disp_address x RCX disp) ≡ true =
-        ap (λ (g : Rights). allowed g.reads (disp_address x RCX disp)) agrees.rights
-        ∙ ap (allowed (area_span call ∷ s.rights.reads)) address ∙ allowed-on s.rights.reads a may in
-        let word : read x.memory (disp_address x RCX disp) ≡ read s.memory a = ap (read x.memory) address ∙ agrees.memory a (lent.unread a may) in
-        let below : read s.memory a < 2 ^ 64 = read-below s.memory a state.memory in
-        last-gives (Load RAX RCX disp) x x.flags (read s.memory a) agrees.machine below
-        (ap (λ t. cond t (puts x (x.at + 7) RAX (read x.memory (disp_address x RCX disp))) (steps.Stuck, x)) allows
-        ∙ ap (λ w. (steps.Moved, wrote x (x.at + 7) x.flags 0 w)) word)
+    -- an Alpha register that is in a register of the processor has its word there
+    pub held : (r q : ℕ) → is_in (operand_place p r) q ≡ true → slice_index x.regs q ≡ read_reg s.regs r
+    held r q h =
+        let i = place-is r q (in-is (operand_place p r) q h) in
+        agrees.in_register r q i.1 ∙ sym (ap (λ b. cond b 0 (slice_index s.regs r)) (ne_eqb r 31 i.0))
+
+    -- a word comes into a register, and nothing else changes
+    pub bring : (r to : ℕ) → IsSomewhere p r → to < 16 → Brings (brought p r to) to to (read_reg s.regs r) x
+    bring r to h low = elim (cases_Bool (is_in (operand_place p r) to)) [
+      | inl there ↦
+          subst (λ b. Brings (cond b [] (fetch p r to ∷ [])) to to (read_reg s.regs r) x) (sym there)
+          (record { end = x; runs = none-run x; only = only-none to x agrees.machine; has = held r to there })
+      | inr away ↦
+          let y : X86 = with_reg r to in
+          let ran : Runs (fetch p r to ∷ []) x y =
+          then-run (fetch p r to) [] x y y (fetched s x lent agrees r to (x.at + length_of (fetch p r to)) h) refl (none-run y) in
+          subst (λ b. Brings (cond b [] (fetch p r to ∷ [])) to to (read_reg s.regs r) x) (sym away) (record {
+            end = y;
+            runs = ran;
+            only = only-wrote x (x.at + length_of (fetch p r to)) x.flags to (read_reg s.regs r) agrees.machine (reg-below r);
+            has = with-reads r to low;
+          })
+    ]
+
+    -- or to where it is read
+    pub readied : (r temp : ℕ) → IsSomewhere p r → temp < 2 → Brings (ready p r temp) temp (source p r temp) (read_reg s.regs r) x
+    readied r temp h low = elim (cases_Bool (is_in (operand_place p r) (source p r temp))) [
+      | inl there ↦
+          subst (λ b. Brings (cond b [] (fetch p r (source p r temp) ∷ [])) temp (source p r temp) (read_reg s.regs r) x) (sym there)
+          (record { end = x; runs = none-run x; only = only-none temp x agrees.machine; has = held r (source p r temp) there })
+      | inr away ↦
+          let same : temp ≡ source p r temp = sym (source-away (operand_place p r) temp away) in
+          subst (λ q. Brings (brought p r q) temp q (read_reg s.regs r) x) same (bring r temp h (omega (arith, low)))
+    ]

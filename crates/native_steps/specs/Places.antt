@@ -1,6 +1,6 @@
 -- Where Alpha registers are while native code runs: in a register of the processor, or in a quadword of an area that the caller lends.
 -- System V Application Binary Interface, AMD64 Architecture Processor Supplement, section 3.2.1, figure 3.4, "Register Usage".
-use Rattle.std.specs.Prelude.{◌≡◌, ◌⊎◌, ℕ, ◌+◌, ◌*◌, Bool, true, false, ◌&&◌, ◌||◌, not, ◌==◌, nat_le, nat_lt, List, length, get_or, replicate, ℤ}
+use Rattle.std.specs.Prelude.{◌≡◌, ◌⊎◌, ℕ, ◌+◌, ◌*◌, Bool, true, false, ◌&&◌, ◌||◌, not, ◌==◌, if◌then◌else◌, nat_le, nat_lt, List, length, get_or, replicate, ℤ}
 use Rattle.std.specs.Prelude.{pos}
 use Rattle.native_steps.specs.declared.places.Place.{Place}
 use Rattle.native_steps.specs.declared.places.Place.TheVariants.{Register, Nowhere}
@@ -13,6 +13,10 @@ Places = List Place
 -- the place of an Alpha register
 abbrev pub place_at : Places → ℕ → Place
 place_at p r = get_or p r Nowhere
+
+-- the place of an operand: register 31, which reads 0, is nowhere
+abbrev pub operand_place : Places → ℕ → Place
+operand_place p r = if r == 31 then Nowhere else place_at p r
 
 -- the code may read a register that has this place
 abbrev pub is_somewhere : Place → Bool
@@ -39,9 +43,9 @@ FUEL = 8
 abbrev pub AREA : ℕ
 AREA = 11
 
--- A register that may be a place: neither of the above, nor rsp, which is 4.
+-- A register that may be a place: neither of the above, nor rsp, which is 4, nor r12, which can't be a base.
 abbrev pub is_free : ℕ → Bool
-is_free q = nat_lt q 16 && not (q == RAX || q == RCX || q == 4 || q == FUEL || q == AREA)
+is_free q = nat_lt q 16 && not (q == RAX || q == RCX || q == 4 || q == FUEL || q == AREA || q == 12)
 
 -- A register that a function leaves as it was: rbx, rsp, rbp, r12 to r15.
 abbrev pub is_callee_saved : ℕ → Bool

@@ -2,8 +2,9 @@
 //! does, but for jumps.
 //!
 //! An Alpha register is in a register of the processor, in a quadword of an area that the caller
-//! lends, or nowhere, if the code never reads it: the places. A sequence brings operands into rax and rcx, computes in rax, and brings the
-//! result to its place. The definitions are in `specs/`:
+//! lends, or nowhere, if the code never reads it: the places. A sequence reads an operand in its place
+//! if that is a register, else in rax or rcx, to which it brings it. It computes in the result's place
+//! if that is a register, else in rax. The definitions are in `specs/`:
 //!
 //! - `Places`: places, and the registers with other tasks;
 //! - `Sequences`: the sequence of each instruction;

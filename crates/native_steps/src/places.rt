@@ -41,7 +41,7 @@ pub(crate) fn slot(r: Reg) -> i32
 pub fn is_free(reg: X86Reg) -> bool
     ensures { result ≡ places.is_free reg }
 {
-    !matches!(reg.number(), 0 | 1 | 4 | 8 | 11)
+    !matches!(reg.number(), 0 | 1 | 4 | 8 | 11 | 12)
 }
 
 /// Checks whether a function leaves the register as it was.
@@ -172,16 +172,60 @@ impl Places {
         }
     }
 
-    /// Returns the instruction that brings a second operand into rcx.
-    pub(crate) fn fetch_rhs(&self, rhs: Rhs) -> X86Insn
-        ensures { result ≡ sequences.fetch_rhs self.now rhs }
+    /// Returns the instruction that brings a second operand into a register of the processor.
+    pub(crate) fn fetch_rhs(&self, rhs: Rhs, to: X86Reg) -> X86Insn
+        ensures { result ≡ sequences.fetch_rhs self.now rhs to }
     {
         match rhs {
-            Rhs::Reg(r) => self.fetch(r, rcx()),
+            Rhs::Reg(r) => self.fetch(r, to),
             Rhs::Lit(n) => X86Insn::MovZero {
-                to: rcx(),
+                to,
                 imm: u32::from(n),
             },
+        }
+    }
+
+    /// Returns the place of an operand; register 31 is nowhere.
+    fn operand_place(&self, r: Reg) -> Place
+        ensures { result ≡ places.operand_place self.now r }
+    {
+        if r.number() == 31 {
+            return Place::Nowhere;
+        }
+        self.place(r)
+    }
+
+    /// Checks whether an Alpha register is in the register of the processor.
+    pub(crate) fn is_at(&self, r: Reg, reg: X86Reg) -> bool
+        ensures { result ≡ places.is_in (places.operand_place self.now r) reg }
+    {
+        is_in(self.operand_place(r), reg)
+    }
+
+    /// Returns the register in which the word of an Alpha register is read: its place, or `temp`.
+    pub(crate) fn source(&self, r: Reg, temp: X86Reg) -> X86Reg
+        ensures { result ≡ sequences.source self.now r temp }
+    {
+        match self.operand_place(r) {
+            Place::Register(own) => own,
+            Place::Slot | Place::Nowhere => temp,
+        }
+    }
+
+    /// Returns the register for a result: the place of its Alpha register, or rax.
+    pub(crate) fn target(&self, r: Reg) -> X86Reg
+        ensures { result ≡ sequences.target self.now r }
+    {
+        self.source(r, rax())
+    }
+
+    /// Checks whether a second operand is in the register of the processor.
+    pub(crate) fn has_second(&self, rhs: &Rhs, reg: X86Reg) -> bool
+        ensures { result ≡ sequences.has_second self.now rhs.now reg }
+    {
+        match rhs {
+            Rhs::Reg(r) => self.is_at(*r, reg),
+            Rhs::Lit(_) => false,
         }
     }
 }

@@ -41,141 +41,31 @@ pub fn branch_cond(cond: Cond) -> X86Cond
     }
 }
 
-/// Returns the test of rax for a condition.
-fn cond_test(cond: Cond) -> X86Insn
-    ensures { result ≡ sequences.cond_test cond }
+/// Returns the test of a register for a condition.
+fn cond_test(cond: Cond, reg: X86Reg) -> X86Insn
+    ensures { result ≡ sequences.cond_test cond reg }
 {
     match cond_tested(cond) {
-        Tested::LowBit => X86Insn::TestImm {
-            left: rax(),
-            imm: 1,
-        },
+        Tested::LowBit => X86Insn::TestImm { left: reg, imm: 1 },
         Tested::Word => X86Insn::Test {
-            left: rax(),
-            right: rax(),
+            left: reg,
+            right: reg,
         },
     }
 }
 
-/// Returns an operator on rax and rcx.
-fn alu(op: AluOp) -> X86Insn
-    ensures { result ≡ X86Insn.Alu op 0 1 }
+/// Checks whether the operator is a difference.
+fn is_difference(op: Op) -> bool
+    ensures { result ≡ sequences.is_difference op }
 {
-    X86Insn::Alu {
-        op,
-        to: rax(),
-        from: rcx(),
-    }
+    matches!(op, Op::Sub)
 }
 
-/// Returns a shift of rax by rcx.
-fn shift(op: ShiftOp) -> X86Insn
-    ensures { result ≡ X86Insn.ShiftCl op 0 }
-{
-    X86Insn::ShiftCl { op, to: rax() }
-}
-
-/// Returns the sum of rcx and a multiple of rax, into rax.
-fn scaled(scale: Scale) -> X86Insn
-    ensures { result ≡ X86Insn.LeaScaled 0 1 0 scale }
-{
-    X86Insn::LeaScaled {
-        to: rax(),
-        base: rcx(),
-        index: rax(),
-        scale,
-    }
-}
-
-/// Returns the instruction that takes the low byte of rax alone.
-fn low_byte() -> X86Insn
-    ensures { result ≡ X86Insn.MovByte 0 0 }
-{
-    X86Insn::MovByte {
-        to: rax(),
-        from: rax(),
-    }
-}
-
-/// Returns the flag of a condition on rax and rcx, into rax.
-fn compare(cond: X86Cond) -> [X86Insn; 3]
-    ensures { result ≡ X86Insn.Alu AluOp.Cmp 0 1 ∷ X86Insn.Set cond 0 ∷ X86Insn.MovByte 0 0 ∷ [] }
-{
-    let set = X86Insn::Set { cond, to: rax() };
-    [alu(AluOp::Cmp), set, low_byte()]
-}
-
-/// Returns the extract of bytes of rax from the place that rcx names on; `last` takes as many as are
-/// wanted.
-fn extract(last: X86Insn) -> [X86Insn; 3]
-    ensures { result
-        ≡ X86Insn.ShiftImm ShiftOp.Shl 1 3 ∷ X86Insn.ShiftCl ShiftOp.Shr 0 ∷ last ∷ [] }
-{
-    let count = X86Insn::ShiftImm {
-        op: ShiftOp::Shl,
-        to: rcx(),
-        count: 3,
-    };
-    [count, shift(ShiftOp::Shr), last]
-}
-
-/// Returns rax with the bits of rcx cleared.
-fn and_not() -> [X86Insn; 2]
-    ensures { result ≡ sequences.op_code Op.Bic }
-{
-    let complement = X86Insn::AluImm {
-        op: AluOp::Xor,
-        to: rcx(),
-        imm: -1,
-    };
-    [complement, alu(AluOp::And)]
-}
-
-/// Returns the extract of two bytes.
-fn extract_two() -> [X86Insn; 3]
-    ensures { result ≡ sequences.op_code Op.Extw }
-{
-    extract(X86Insn::MovTwo {
-        to: rax(),
-        from: rax(),
-    })
-}
-
-/// Returns the extract of four bytes.
-fn extract_four() -> [X86Insn; 3]
-    ensures { result ≡ sequences.op_code Op.Extl }
-{
-    extract(X86Insn::MovFour {
-        to: rax(),
-        from: rax(),
-    })
-}
-
-/// Appends the instructions of an operator on rax and rcx. Errors: out of memory.
-fn push_op(out: &mut Vec<X86Insn>, op: Op) -> Result<(), AllocError>
-    ensures { OnOk result (out.new.items ≡ out.old.items ++ sequences.op_code op) }
-{
-    match op {
-        Op::Add => out.extend_from_slice(&[alu(AluOp::Add)]),
-        Op::Sub => out.extend_from_slice(&[alu(AluOp::Sub)]),
-        Op::Band => out.extend_from_slice(&[alu(AluOp::And)]),
-        Op::Bis => out.extend_from_slice(&[alu(AluOp::Or)]),
-        Op::Sll => out.extend_from_slice(&[shift(ShiftOp::Shl)]),
-        Op::Srl => out.extend_from_slice(&[shift(ShiftOp::Shr)]),
-        Op::Cmpeq => out.extend_from_slice(&compare(X86Cond::Equal)),
-        Op::Cmplt => out.extend_from_slice(&compare(X86Cond::Less)),
-        Op::Cmple => out.extend_from_slice(&compare(X86Cond::LessOrEqual)),
-        Op::Cmpult => out.extend_from_slice(&compare(X86Cond::Below)),
-        Op::Cmpule => out.extend_from_slice(&compare(X86Cond::BelowOrEqual)),
-        Op::Xor => out.extend_from_slice(&[alu(AluOp::Xor)]),
-        Op::Bic => out.extend_from_slice(&and_not()),
-        Op::S4add => out.extend_from_slice(&[scaled(Scale::Four)]),
-        Op::S8add => out.extend_from_slice(&[scaled(Scale::Eight)]),
-        Op::Sra => out.extend_from_slice(&[shift(ShiftOp::Sar)]),
-        Op::Extb => out.extend_from_slice(&extract(low_byte())),
-        Op::Extw => out.extend_from_slice(&extract_two()),
-        Op::Extl => out.extend_from_slice(&extract_four()),
-    }
+/// The register that an operator works in, and its first operand.
+#[derive(Clone, Copy)]
+struct Work {
+    work: X86Reg,
+    left: Reg,
 }
 
 impl Places {
@@ -211,65 +101,397 @@ impl Places {
         self.keep(out, r, rax())
     }
 
-    /// Appends the instructions that bring the sum of a register and a displacement into rax. Errors:
-    /// out of memory.
-    fn push_sum(&self, out: &mut Vec<X86Insn>, base: Reg, disp: i32) -> Result<(), AllocError>
-        ensures { OnOk result (out.new.items
-            ≡ out.old.items ++ sequences.computed_code self.now (actions.Sum base disp)) }
+    /// Appends what brings the word of an Alpha register into a register of the processor, if that
+    /// isn't its place. Errors: out of memory.
+    fn push_brought(&self, out: &mut Vec<X86Insn>, r: Reg, to: X86Reg) -> Result<(), AllocError>
+        ensures { OnOk result (out.new.items ≡ out.old.items ++ sequences.brought self.now r to) }
     {
-        let add = X86Insn::AluImm {
-            op: AluOp::Add,
-            to: rax(),
-            imm: disp,
-        };
-        out.extend_from_slice(&[self.fetch(base, rax()), add])
+        if self.is_at(r, to) {
+            return Ok(());
+        }
+        out.extend_from_slice(&[self.fetch(r, to)])
     }
 
-    /// Appends the instructions that bring the result of an operator into rax. Errors: out of memory.
-    fn push_applied(
+    /// Appends what brings the word of an Alpha register to where it is read. Errors: out of memory.
+    fn push_ready(&self, out: &mut Vec<X86Insn>, r: Reg, temp: X86Reg) -> Result<(), AllocError>
+        ensures { OnOk result (out.new.items ≡ out.old.items ++ sequences.ready self.now r temp) }
+    {
+        self.push_brought(out, r, self.source(r, temp))
+    }
+
+    /// Appends what brings a result into its place. Errors: out of memory.
+    fn push_settle(&self, out: &mut Vec<X86Insn>, r: Reg, work: X86Reg) -> Result<(), AllocError>
+        ensures { OnOk result (out.new.items ≡ out.old.items ++ sequences.settle self.now r work) }
+    {
+        if self.is_at(r, work) {
+            return Ok(());
+        }
+        self.push_keep(out, r)
+    }
+
+    /// Appends an operator on a register and an Alpha register, which is brought to where it is read.
+    /// Errors: out of memory.
+    fn push_onto(
         &self,
         out: &mut Vec<X86Insn>,
-        op: Op,
-        left: Reg,
+        op: AluOp,
+        to: X86Reg,
+        r: Reg,
+    ) -> Result<(), AllocError>
+        ensures { OnOk result (out.new.items ≡ out.old.items ++ (sequences.ready self.now r 1
+            ++ X86Insn.Alu op to (sequences.source self.now r 1) ∷ [])) }
+    {
+        let from = self.source(r, rcx());
+        self.push_ready(out, r, rcx())?;
+        out.extend_from_slice(&[X86Insn::Alu { op, to, from }])
+    }
+
+    /// Appends an operator of two operands. Errors: out of memory.
+    fn push_alu(
+        &self,
+        out: &mut Vec<X86Insn>,
+        op: AluOp,
+        o: Work,
         right: Rhs,
     ) -> Result<(), AllocError>
         ensures { OnOk result (out.new.items
-            ≡ out.old.items ++ sequences.computed_code self.now (actions.Applied op left right)) }
+            ≡ out.old.items ++ sequences.alu_code self.now op o.work o.left right) }
     {
-        out.extend_from_slice(&[self.fetch(left, rax()), self.fetch_rhs(right)])?;
-        push_op(out, op)?;
-        Ok(())
+        match right {
+            Rhs::Lit(n) => {
+                let imm = i32::from(n);
+                self.push_brought(out, o.left, o.work)?;
+                out.extend_from_slice(&[X86Insn::AluImm {
+                    op,
+                    to: o.work,
+                    imm,
+                }])
+            }
+            Rhs::Reg(r) => {
+                if self.is_at(r, o.work) {
+                    return self.push_onto(out, op, o.work, o.left);
+                }
+                let from = self.source(r, rcx());
+                self.push_ready(out, r, rcx())?;
+                self.push_brought(out, o.left, o.work)?;
+                out.extend_from_slice(&[X86Insn::Alu {
+                    op,
+                    to: o.work,
+                    from,
+                }])
+            }
+        }
     }
 
-    /// Appends the instructions that load the quadword at a register and a displacement into rax.
-    /// Errors: out of memory.
-    fn push_load(&self, out: &mut Vec<X86Insn>, base: Reg, disp: i32) -> Result<(), AllocError>
-        ensures { OnOk result (out.new.items
-            ≡ out.old.items ++ sequences.load_code self.now base disp) }
-    {
-        let load = X86Insn::Load {
-            to: rax(),
-            base: rcx(),
-            disp,
-        };
-        out.extend_from_slice(&[self.fetch(base, rcx()), load])
-    }
-
-    /// Appends the instructions that load the quadword around the byte at a register and a
-    /// displacement into rax. Errors: out of memory.
-    fn push_load_around(
+    /// Appends an operator for which 0 and a second operand give that operand. Errors: out of memory.
+    fn push_move(
         &self,
         out: &mut Vec<X86Insn>,
+        op: AluOp,
+        o: Work,
+        right: Rhs,
+    ) -> Result<(), AllocError>
+        ensures { OnOk result (out.new.items
+            ≡ out.old.items ++ sequences.move_code self.now op o.work o.left right) }
+    {
+        if o.left.number() == 31 {
+            return out.extend_from_slice(&[self.fetch_rhs(right, o.work)]);
+        }
+        self.push_alu(out, op, o, right)
+    }
+
+    /// Appends what compares two operands. Errors: out of memory.
+    fn push_cmp(&self, out: &mut Vec<X86Insn>, left: Reg, right: Rhs) -> Result<(), AllocError>
+        ensures { OnOk result (out.new.items
+            ≡ out.old.items ++ sequences.cmp_code self.now left right) }
+    {
+        let to = self.source(left, rax());
+        match right {
+            Rhs::Lit(n) => {
+                let imm = i32::from(n);
+                out.extend_from_slice(&[X86Insn::AluImm {
+                    op: AluOp::Cmp,
+                    to,
+                    imm,
+                }])
+            }
+            Rhs::Reg(r) => self.push_onto(out, AluOp::Cmp, to, r),
+        }
+    }
+
+    /// Appends the flag of a condition on two operands. Errors: out of memory.
+    fn push_compare(
+        &self,
+        out: &mut Vec<X86Insn>,
+        cond: X86Cond,
+        o: Work,
+        right: Rhs,
+    ) -> Result<(), AllocError>
+        ensures { OnOk result (out.new.items
+            ≡ out.old.items ++ sequences.compare_code self.now cond o.work o.left right) }
+    {
+        let set = X86Insn::Set { cond, to: rax() };
+        let cut = X86Insn::MovByte {
+            to: o.work,
+            from: rax(),
+        };
+        self.push_ready(out, o.left, rax())?;
+        self.push_cmp(out, o.left, right)?;
+        out.extend_from_slice(&[set, cut])
+    }
+
+    /// Appends a shift. Errors: out of memory.
+    fn push_shift(
+        &self,
+        out: &mut Vec<X86Insn>,
+        op: ShiftOp,
+        o: Work,
+        right: Rhs,
+    ) -> Result<(), AllocError>
+        ensures { OnOk result (out.new.items
+            ≡ out.old.items ++ sequences.shift_code self.now op o.work o.left right) }
+    {
+        match right {
+            Rhs::Lit(n) => {
+                let count = n % 64;
+                self.push_brought(out, o.left, o.work)?;
+                out.extend_from_slice(&[X86Insn::ShiftImm {
+                    op,
+                    to: o.work,
+                    count,
+                }])
+            }
+            Rhs::Reg(r) => {
+                out.extend_from_slice(&[self.fetch(r, rcx())])?;
+                self.push_brought(out, o.left, o.work)?;
+                out.extend_from_slice(&[X86Insn::ShiftCl { op, to: o.work }])
+            }
+        }
+    }
+
+    /// Appends what clears the bits of a second operand. Errors: out of memory.
+    fn push_bic(&self, out: &mut Vec<X86Insn>, o: Work, right: Rhs) -> Result<(), AllocError>
+        ensures { OnOk result (out.new.items
+            ≡ out.old.items ++ sequences.bic_code self.now o.work o.left right) }
+    {
+        let complement = X86Insn::AluImm {
+            op: AluOp::Xor,
+            to: rcx(),
+            imm: -1,
+        };
+        let both = X86Insn::Alu {
+            op: AluOp::And,
+            to: o.work,
+            from: rcx(),
+        };
+        out.extend_from_slice(&[self.fetch_rhs(right, rcx()), complement])?;
+        self.push_brought(out, o.left, o.work)?;
+        out.extend_from_slice(&[both])
+    }
+
+    /// Appends the sum of a multiple and a second operand. Errors: out of memory.
+    fn push_scaled(
+        &self,
+        out: &mut Vec<X86Insn>,
+        scale: Scale,
+        o: Work,
+        right: Rhs,
+    ) -> Result<(), AllocError>
+        ensures { OnOk result (out.new.items
+            ≡ out.old.items ++ sequences.scaled_code self.now scale o.work o.left right) }
+    {
+        let to = o.work;
+        let index = self.source(o.left, rax());
+        self.push_ready(out, o.left, rax())?;
+        match right {
+            Rhs::Lit(_) => {
+                let base = rcx();
+                let sum = X86Insn::LeaScaled {
+                    to,
+                    base,
+                    index,
+                    scale,
+                };
+                out.extend_from_slice(&[self.fetch_rhs(right, rcx()), sum])
+            }
+            Rhs::Reg(r) => {
+                let base = self.source(r, rcx());
+                self.push_ready(out, r, rcx())?;
+                out.extend_from_slice(&[X86Insn::LeaScaled {
+                    to,
+                    base,
+                    index,
+                    scale,
+                }])
+            }
+        }
+    }
+
+    /// Appends the extract of bytes from a second operand's place on; `last` takes as many as are
+    /// wanted. Errors: out of memory.
+    fn push_extract(
+        &self,
+        out: &mut Vec<X86Insn>,
+        last: X86Insn,
+        o: Work,
+        right: Rhs,
+    ) -> Result<(), AllocError>
+        ensures { OnOk result (out.new.items
+            ≡ out.old.items ++ sequences.extract_code self.now last o.work o.left right) }
+    {
+        let to = o.work;
+        let op = ShiftOp::Shr;
+        match right {
+            Rhs::Lit(n) => {
+                let count = 8 * (n % 8);
+                self.push_brought(out, o.left, o.work)?;
+                out.extend_from_slice(&[X86Insn::ShiftImm { op, to, count }, last])
+            }
+            Rhs::Reg(r) => {
+                let eightfold = X86Insn::ShiftImm {
+                    op: ShiftOp::Shl,
+                    to: rcx(),
+                    count: 3,
+                };
+                out.extend_from_slice(&[self.fetch(r, rcx()), eightfold])?;
+                self.push_brought(out, o.left, o.work)?;
+                out.extend_from_slice(&[X86Insn::ShiftCl { op, to }, last])
+            }
+        }
+    }
+
+    /// Appends the instructions of an operator. Errors: out of memory.
+    fn push_op(&self, out: &mut Vec<X86Insn>, op: Op, o: Work, right: Rhs) -> Result<(), AllocError>
+        ensures { OnOk result (out.new.items
+            ≡ out.old.items ++ sequences.op_code self.now op o.work o.left right) }
+    {
+        let to = o.work;
+        let from = o.work;
+        match op {
+            Op::Add => self.push_move(out, AluOp::Add, o, right),
+            Op::Sub => self.push_alu(out, AluOp::Sub, o, right),
+            Op::Band => self.push_alu(out, AluOp::And, o, right),
+            Op::Bis => self.push_move(out, AluOp::Or, o, right),
+            Op::Sll => self.push_shift(out, ShiftOp::Shl, o, right),
+            Op::Srl => self.push_shift(out, ShiftOp::Shr, o, right),
+            Op::Cmpeq => self.push_compare(out, X86Cond::Equal, o, right),
+            Op::Cmplt => self.push_compare(out, X86Cond::Less, o, right),
+            Op::Cmple => self.push_compare(out, X86Cond::LessOrEqual, o, right),
+            Op::Cmpult => self.push_compare(out, X86Cond::Below, o, right),
+            Op::Cmpule => self.push_compare(out, X86Cond::BelowOrEqual, o, right),
+            Op::Xor => self.push_alu(out, AluOp::Xor, o, right),
+            Op::Bic => self.push_bic(out, o, right),
+            Op::S4add => self.push_scaled(out, Scale::Four, o, right),
+            Op::S8add => self.push_scaled(out, Scale::Eight, o, right),
+            Op::Sra => self.push_shift(out, ShiftOp::Sar, o, right),
+            Op::Extb => self.push_extract(out, X86Insn::MovByte { to, from }, o, right),
+            Op::Extw => self.push_extract(out, X86Insn::MovTwo { to, from }, o, right),
+            Op::Extl => self.push_extract(out, X86Insn::MovFour { to, from }, o, right),
+        }
+    }
+
+    /// Appends the sum of a register and a displacement. Errors: out of memory.
+    fn push_sum(
+        &self,
+        out: &mut Vec<X86Insn>,
+        work: X86Reg,
         base: Reg,
         disp: i32,
     ) -> Result<(), AllocError>
         ensures { OnOk result (out.new.items
-            ≡ out.old.items ++ sequences.load_around_code self.now base disp) }
+            ≡ out.old.items ++ sequences.sum_code self.now work base disp) }
     {
-        let add = X86Insn::AluImm {
-            op: AluOp::Add,
+        if base.number() == 31 {
+            return out.extend_from_slice(&[X86Insn::MovImm {
+                to: work,
+                imm: disp,
+            }]);
+        }
+        let from = self.source(base, rax());
+        self.push_ready(out, base, rax())?;
+        out.extend_from_slice(&[X86Insn::Lea {
+            to: work,
+            base: from,
+            disp,
+        }])
+    }
+
+    /// Appends the instructions of a computed sum, which goes to the place of an Alpha register. Errors:
+    /// out of memory.
+    fn push_summed(
+        &self,
+        out: &mut Vec<X86Insn>,
+        to: Reg,
+        base: Reg,
+        disp: i32,
+    ) -> Result<(), AllocError>
+        ensures { OnOk result (out.new.items
+            ≡ out.old.items ++ sequences.computed_code self.now to (actions.Sum base disp)) }
+    {
+        self.push_sum(out, self.target(to), base, disp)?;
+        self.push_settle(out, to, self.target(to))
+    }
+
+    /// Appends the instructions of an operator, whose result goes to the place of an Alpha register.
+    /// Errors: out of memory.
+    fn push_applied(
+        &self,
+        out: &mut Vec<X86Insn>,
+        op: Op,
+        to: Reg,
+        left: Reg,
+        right: Rhs,
+    ) -> Result<(), AllocError>
+        ensures { OnOk result (out.new.items ≡ out.old.items
+            ++ sequences.computed_code self.now to (actions.Applied op left right)) }
+    {
+        let mut work = self.target(to);
+        if is_difference(op) && self.has_second(&right, work) {
+            work = rax();
+        }
+        self.push_op(out, op, Work { work, left }, right)?;
+        self.push_settle(out, to, work)
+    }
+
+    /// Appends the load of the quadword at a register and a displacement. Errors: out of memory.
+    fn push_load(
+        &self,
+        out: &mut Vec<X86Insn>,
+        to: Reg,
+        base: Reg,
+        disp: i32,
+    ) -> Result<(), AllocError>
+        ensures { OnOk result (out.new.items
+            ≡ out.old.items ++ sequences.action_code self.now (actions.Load to base disp)) }
+    {
+        let work = self.target(to);
+        let load = X86Insn::Load {
+            to: work,
+            base: self.source(base, rcx()),
+            disp,
+        };
+        self.push_ready(out, base, rcx())?;
+        out.extend_from_slice(&[load])?;
+        self.push_settle(out, to, work)
+    }
+
+    /// Appends the load of the quadword around the byte at a register and a displacement. Errors: out
+    /// of memory.
+    fn push_load_around(
+        &self,
+        out: &mut Vec<X86Insn>,
+        to: Reg,
+        base: Reg,
+        disp: i32,
+    ) -> Result<(), AllocError>
+        ensures { OnOk result (out.new.items
+            ≡ out.old.items ++ sequences.action_code self.now (actions.LoadAround to base disp)) }
+    {
+        let work = self.target(to);
+        let sum = X86Insn::Lea {
             to: rcx(),
-            imm: disp,
+            base: self.source(base, rcx()),
+            disp,
         };
         let align = X86Insn::AluImm {
             op: AluOp::And,
@@ -277,11 +499,13 @@ impl Places {
             imm: -8,
         };
         let load = X86Insn::Load {
-            to: rax(),
+            to: work,
             base: rcx(),
             disp: 0,
         };
-        out.extend_from_slice(&[self.fetch(base, rcx()), add, align, load])
+        self.push_ready(out, base, rcx())?;
+        out.extend_from_slice(&[sum, align, load])?;
+        self.push_settle(out, to, work)
     }
 
     /// Appends the instructions of a store. Errors: out of memory.
@@ -296,11 +520,13 @@ impl Places {
             ≡ out.old.items ++ sequences.action_code self.now (actions.Store from base disp)) }
     {
         let store = X86Insn::Store {
-            base: rcx(),
+            base: self.source(base, rcx()),
             disp,
-            from: rax(),
+            from: self.source(from, rax()),
         };
-        out.extend_from_slice(&[self.fetch(base, rcx()), self.fetch(from, rax()), store])
+        self.push_ready(out, base, rcx())?;
+        self.push_ready(out, from, rax())?;
+        out.extend_from_slice(&[store])
     }
 
     /// Appends the instructions that set the flags for a branch. Errors: out of memory.
@@ -308,7 +534,9 @@ impl Places {
         ensures { OnOk result (out.new.items
             ≡ out.old.items ++ sequences.test_code self.now (actions.When cond r)) }
     {
-        out.extend_from_slice(&[self.fetch(r, rax()), cond_test(cond)])
+        let test = cond_test(cond, self.source(r, rax()));
+        self.push_ready(out, r, rax())?;
+        out.extend_from_slice(&[test])
     }
 
     /// Appends the sequence of an Alpha instruction, without the jumps of branches and returns.
@@ -317,27 +545,14 @@ impl Places {
         ensures { OnOk result (out.new.items ≡ out.old.items ++ sequences.insn_code self.now insn) }
     {
         match insn {
-            Insn::Lda { ra, rb, disp } => {
-                self.push_sum(out, rb, i32::from(disp))?;
-                self.push_keep(out, ra)
-            }
+            Insn::Lda { ra, rb, disp } => self.push_summed(out, ra, rb, i32::from(disp)),
             Insn::Ldah { ra, rb, disp } => {
-                self.push_sum(out, rb, i32::from(disp) * 65_536)?;
-                self.push_keep(out, ra)
+                self.push_summed(out, ra, rb, i32::from(disp) * 65_536)
             }
-            Insn::Ldq { ra, rb, disp } => {
-                self.push_load(out, rb, i32::from(disp))?;
-                self.push_keep(out, ra)
-            }
-            Insn::LdqU { ra, rb, disp } => {
-                self.push_load_around(out, rb, i32::from(disp))?;
-                self.push_keep(out, ra)
-            }
+            Insn::Ldq { ra, rb, disp } => self.push_load(out, ra, rb, i32::from(disp)),
+            Insn::LdqU { ra, rb, disp } => self.push_load_around(out, ra, rb, i32::from(disp)),
             Insn::Stq { ra, rb, disp } => self.push_store(out, ra, rb, i32::from(disp)),
-            Insn::Oper { op, ra, rhs, rc } => {
-                self.push_applied(out, op, ra, rhs)?;
-                self.push_keep(out, rc)
-            }
+            Insn::Oper { op, ra, rhs, rc } => self.push_applied(out, op, rc, ra, rhs),
             Insn::Branch { cond, ra, .. } => self.push_test(out, cond, ra),
             Insn::Br { .. } | Insn::Ret => Ok(()),
         }

@@ -1,21 +1,39 @@
 -- Blocks that are laid out fit, and their bytes are native code.
-use Rattle.std.proofs.Common.{◌≡◌, ℕ, suc, ◌+◌, ◌^◌, ◌<◌, ◌≤◌, Bool, List, [], ◌∷◌, ◌++◌, length, slice_get, slice_index}
-use Rattle.std.proofs.Common.{sym, ap, ◌∙◌, subst, arith, inl, inr, length-append}
+use Rattle.std.proofs.Common.{◌≡◌, ℕ, zero, suc, ◌+◌, ◌-◌, ◌%◌, ◌^◌, ◌<◌, ◌≤◌, ◌==◌, Bool, true, false, cond, replicate, List, [], ◌∷◌, ◌++◌, length}
+use Rattle.std.proofs.Common.{slice_get, slice_index}
+use Rattle.std.proofs.Common.{refl, sym, ap, ◌∙◌, subst, arith, inl, inr, length-append}
 use Rattle.std.specs.List.{All, flat_map}
-use Rattle.std.proofs.lemmas.Bool.{cases_lt, cases_eq}
-use Rattle.std.proofs.lemmas.List.{get_or_past, get_or_push, get_or_append_left}
+use Rattle.std.proofs.lemmas.Bool.{cases_Bool, cases_lt, cases_eq}
+use Rattle.std.proofs.lemmas.List.{append-nil, get_or_past, get_or_push, get_or_append_left}
 use Rattle.alpha_words.specs.declared.insn.Insn.{Insn}
 use Rattle.alpha_cfg.specs.Flow.{IsCode}
 use Rattle.x86_words.specs.Encoding.{bytes_of}
 use Rattle.native_steps.specs.Places.{Places, ArePlaces}
+use Rattle.x86_words.specs.declared.insn.X86Insn.TheVariants.{Nop}
 use Rattle.native_code.specs.declared.insn.NativeInsn.{NativeInsn}
-use Rattle.native_code.specs.Blocks.{block_at, front_code, whole_code}
-use Rattle.native_code.specs.Layout.{code_length, placed_from, offset_of, LeadsBelow, SmallOffsets, InnerTargets}
+use Rattle.native_code.specs.declared.insn.NativeInsn.TheVariants.{Plain, Go}
+use Rattle.native_code.specs.Heads.{is_loop_head}
+use Rattle.native_code.specs.Blocks.{plain, entry_code, block_at}
+use Rattle.native_code.specs.Layout.{code_length, padding, placed_from, front_code, whole_code, offset_of, LeadsBelow, SmallOffsets, InnerTargets}
 use Rattle.native_code.specs.Calls.{ArePlacesOf}
-use Rattle.native_code.proofs.Texts.{offset-next}
+use Rattle.native_code.proofs.Heading.{head-inside}
+use Rattle.native_code.proofs.Texts.{length-append-code, offset-next, end-is, block, pad}
 use Rattle.native_translator.specs.Translation.{IsTranslation}
 use Rattle.native_translator.specs.Inside.Parts.{AreBlocks, FitsLayout}
 use Rattle.native_translator.proofs.Placing.{all-same, bytes-count}
+
+-- an index past the code is no loop head
+pub no_head_past : (code : List Insn) (i : ℕ) → length code ≤ i → is_loop_head code i ≡ false
+no_head_past code i past = elim (cases_Bool (is_loop_head code i)) [
+  | inl h ↦ let low = head-inside code i h in absurd (omega (arith, low, past))
+  | inr none ↦ none
+]
+
+-- the padding that is made
+pub padding-made : (code : List Insn) (i at : ℕ) (out : List NativeInsn) → is_loop_head code i ≡ true → (at % 32 == 0) ≡ false →
+    out ≡ Go i ∷ replicate ((32 - (at + 5) % 32) % 32) (Plain Nop) → out ≡ cond (is_loop_head code i) (padding i at) []
+padding-made code i at out head odd is =
+    is ∙ ap (λ b. cond b [] (Go i ∷ replicate ((32 - (at + 5) % 32) % 32) (Plain Nop))) (sym odd) ∙ ap (λ h. cond h (padding i at) []) (sym head)
 
 module _ (p : Places) (metered : Bool) (code : List Insn) where
   abbrev pub start : ℕ → ℕ
@@ -23,42 +41,88 @@ module _ (p : Places) (metered : Bool) (code : List Insn) where
 
   -- ---- while blocks are made
 
-  -- the blocks of the indices below i are made, and where they begin
+  -- the blocks of the indices below i, with no padding behind
+  abbrev pub behind : ℕ → List NativeInsn
+  behind zero = plain (entry_code p)
+  behind (suc i) = front_code p metered code i ++ block p metered code i
+
+  abbrev padding_at : ℕ → ℕ → List NativeInsn
+  padding_at = pad p metered code
+
+  front-is : (i : ℕ) → front_code p metered code i ≡ behind i ++ padding_at i (code_length (behind i))
+  front-is zero = refl
+  front-is (suc i) = refl
+
+  -- they are made, and where they begin
   pub record AreFirst (i : ℕ) (insns : List NativeInsn) (starts : List ℕ) (at : ℕ) : Type 0 where
-    pub front : insns ≡ front_code p metered code i
+    pub front : insns ≡ behind i
     pub count : length starts ≡ i
     pub begins : (k : ℕ) → k < i → slice_index starts k ≡ start k
-    pub next : at ≡ start i
+    pub next : at ≡ code_length (behind i)
 
-  pub first-more : (i : ℕ) (insns block insns' : List NativeInsn) (starts starts' : List ℕ) (at at' : ℕ)
-      → block ≡ block_at p metered code i (slice_get code i) → insns' ≡ insns ++ block → starts' ≡ starts ++ at ∷ []
-      → at' ≡ at + code_length block → AreFirst i insns starts at → AreFirst (i + 1) insns' starts' at'
-  first-more i insns block insns' starts starts' at at' is more pushed sum first =
-      let one : suc i ≡ i + 1 = omega arith in subst (λ n. AreFirst n insns' starts' at') one (record {
-        front = more ∙ ap (λ l. l ++ block) first.front ∙ ap (λ l. front_code p metered code i ++ l) is;
-        count = ap length pushed ∙ (let n = first.count in let e = length-append starts (at ∷ []) in omega (arith, n, e));
+  -- where the next block begins
+  pub padded : (i : ℕ) (insns more : List NativeInsn) (starts : List ℕ) (at : ℕ) → more ≡ padding_at i at → AreFirst i insns starts at →
+      at + code_length more ≡ start i
+  padded i insns more starts at is first =
+      let e = length-append-code (behind i) (padding_at i (code_length (behind i))) in
+      let f = ap code_length (front-is i) in
+      let m = ap code_length (is ∙ ap (padding_at i) first.next) in
+      let n = first.next in
+      omega (arith, e, f, m, n)
+
+  pub first-more : (i : ℕ) (insns more block insns' : List NativeInsn) (starts starts' : List ℕ) (at at' at'' : ℕ)
+      → more ≡ padding_at i at → at' ≡ at + code_length more
+      → block ≡ block_at p metered code i (slice_get code i) → insns' ≡ (insns ++ more) ++ block → starts' ≡ starts ++ at' ∷ []
+      → at'' ≡ at' + code_length block → AreFirst i insns starts at → AreFirst (i + 1) insns' starts' at''
+  first-more i insns more block insns' starts starts' at at' at'' padding-is place is whole pushed sum first =
+      let begin : at' ≡ start i = place ∙ padded i insns more starts at padding-is first in
+      let front : insns ++ more ≡ front_code p metered code i =
+      ap (λ l. l ++ more) first.front ∙ ap (λ l. behind i ++ l) (padding-is ∙ ap (padding_at i) first.next) ∙ sym (front-is i) in
+      let one : suc i ≡ i + 1 = omega arith in subst (λ n. AreFirst n insns' starts' at'') one (record {
+        front = whole ∙ ap (λ l. l ++ block) front ∙ ap (λ l. front_code p metered code i ++ l) is;
+        count = ap length pushed ∙ (let n = first.count in let e = length-append starts (at' ∷ []) in omega (arith, n, e));
         begins = λ k low. elim (cases_eq k i) [
           | inl same ↦
-              let last : slice_index (starts ++ at ∷ []) k ≡ at = get_or_push starts at 0 k (first.count ∙ sym same) in
-              ap (λ l. slice_index l k) pushed ∙ last ∙ first.next ∙ ap start (sym same)
+              let last : slice_index (starts ++ at' ∷ []) k ≡ at' = get_or_push starts at' 0 k (first.count ∙ sym same) in
+              ap (λ l. slice_index l k) pushed ∙ last ∙ begin ∙ ap start (sym same)
           | inr less ↦
               let n = first.count in
-              let old : slice_index (starts ++ at ∷ []) k ≡ slice_index starts k =
-              get_or_append_left starts (at ∷ []) 0 k (omega (arith, low, less, n)) in
+              let old : slice_index (starts ++ at' ∷ []) k ≡ slice_index starts k =
+              get_or_append_left starts (at' ∷ []) 0 k (omega (arith, low, less, n)) in
               ap (λ l. slice_index l k) pushed ∙ old ∙ first.begins k (omega (arith, low, less))
         ];
-        next = sum ∙ ap (λ n. n + code_length block) first.next ∙ ap (λ l. start i + code_length l) is ∙ sym (offset-next p metered code i);
+        next = sum ∙ ap (λ n. n + code_length block) begin ∙ ap (λ l. start i + code_length l) is ∙ sym (end-is p metered code i);
       })
 
   pub all-made : (i : ℕ) (insns : List NativeInsn) (starts : List ℕ) (at : ℕ) → i ≡ suc (length code) → AreFirst i insns starts at
       → AreBlocks p metered code insns starts
-  all-made i insns starts at e first = record {
-    whole = first.front ∙ ap (front_code p metered code) e;
-    count = first.count ∙ e;
-    begins = λ k low. first.begins k (omega (arith, low, e));
-  }
+  all-made i insns starts at e first =
+      let n : ℕ = suc (length code) in
+      let none : padding_at n (code_length (behind n)) ≡ [] =
+      ap (λ h. cond h (padding n (code_length (behind n))) []) (no_head_past code n (omega arith)) in
+      record {
+        whole =
+            first.front ∙ ap behind e ∙ sym (append-nil (behind n)) ∙ ap (λ l. behind n ++ l) (sym none) ∙ sym (front-is n);
+        count = first.count ∙ e;
+        begins = λ k low. first.begins k (omega (arith, low, e));
+      }
 
-  -- the next block ends below 2^30
+  -- what stands in front of padding is short
+  pub behind-small : (i : ℕ) → IsCode code → ArePlaces p → SmallOffsets → i ≤ length code → code_length (behind i) < 2 ^ 30
+  behind-small i ok places small low =
+      let s = small p metered code ok places i (omega (arith, low)) in
+      let e = length-append-code (behind i) (padding_at i (code_length (behind i))) in
+      let f = ap code_length (front-is i) in
+      omega (arith, s, e, f)
+
+  -- the next block begins, and ends, below 2^30
+  pub begin-small : (i : ℕ) (insns more : List NativeInsn) (starts : List ℕ) (at : ℕ) → IsCode code → ArePlaces p → SmallOffsets → i ≤ length code
+      → more ≡ padding_at i at → AreFirst i insns starts at → at + code_length more < 2 ^ 30
+  begin-small i insns more starts at ok places small low is first =
+      let s = small p metered code ok places i (omega (arith, low)) in
+      let e = padded i insns more starts at is first in
+      omega (arith, s, e)
+
   pub block-small : (i : ℕ) (block : List NativeInsn) → IsCode code → ArePlaces p → SmallOffsets → i ≤ length code
       → block ≡ block_at p metered code i (slice_get code i) → start i + code_length block < 2 ^ 30
   block-small i block ok places small low is =

@@ -1,11 +1,14 @@
 //! Where blocks begin, how far jumps lead, and the bytes.
 
-ghost use Rattle.std.specs.Prelude.{◌≡◌, ℕ, ◌<◌, ◌^◌, length, slice_index, IfOk};
+ghost use Rattle.std.specs.Prelude.{◌≡◌, ℕ, ◌<◌, ◌^◌, ◌++◌, [], if◌then◌else◌, length};
+ghost use Rattle.std.specs.Prelude.{replicate, slice_index, IfOk, OnOk};
 ghost use Rattle.std.specs.List.{flat_map};
 ghost use Rattle.x86_words.specs.Encoding.{bytes_of};
+ghost use Rattle.native_code.specs.Heads as heads;
 ghost use Rattle.native_code.specs.Layout as layouts;
 ghost use Rattle.native_translator.specs.Inside.Parts.{AreBlocks, FitsLayout};
 
+use crate::heads::is_loop_head;
 use crate::plan::Plan;
 use alpha_cfg::Code;
 use native_code::{NativeInsn, layout_laws};
@@ -31,6 +34,61 @@ pub(crate) struct Layout {
     starts: Vec<u32>,
 }
 
+/// Appends so many `nop`s. Errors: out of memory.
+fn push_nops(out: &mut Vec<NativeInsn>, count: u32) -> Result<(), AllocError>
+    ensures { OnOk result (out.new.items
+        ≡ out.old.items ++ replicate count (NativeInsn.Plain X86Insn.Nop)) }
+{
+    for _ in 0..count {
+        out.push(NativeInsn::Plain(X86Insn::Nop))?;
+    }
+    Ok(())
+}
+
+/// Checks whether an index, of the code or past it, is a loop head.
+#[tactic(auto, using(crate::proofs::Translated::no_head_past))]
+fn is_head(code: &Code, i: u32) -> bool
+    ensures { result ≡ heads.is_loop_head code.now i }
+{
+    i < code.count() && is_loop_head(code, i)
+}
+
+/// Appends the padding from an offset to the block of an index. Errors: out of memory.
+fn push_padding(out: &mut Vec<NativeInsn>, i: u32, at: u32) -> Result<(), AllocError>
+    requires { at < 2 ^ 30 }
+    ensures { OnOk result (out.new.items ≡ out.old.items ++ layouts.padding i at) }
+{
+    if at % 32 == 0 {
+        return Ok(());
+    }
+    out.extend_from_slice(&[NativeInsn::Go(i)])?;
+    push_nops(out, (32 - (at + 5) % 32) % 32)
+}
+
+/// Appends the same, if the index is a loop head. Errors: out of memory.
+fn push_gap(out: &mut Vec<NativeInsn>, code: &Code, i: u32, at: u32) -> Result<(), AllocError>
+    requires { at < 2 ^ 30 }
+    ensures { OnOk result (out.new.items ≡ out.old.items
+        ++ (if heads.is_loop_head code.now i then layouts.padding i at else [])) }
+{
+    if !is_head(code, i) {
+        return Ok(());
+    }
+    push_padding(out, i, at)
+}
+
+/// Returns the padding from an offset to the block of an index, if that is a loop head. Errors: out of
+/// memory.
+fn padding(alloc: Global, code: &Code, i: u32, at: u32) -> Result<Vec<NativeInsn>, AllocError>
+    requires { at < 2 ^ 30 }
+    ensures { IfOk result (λ v. v.items
+        ≡ (if heads.is_loop_head code.now i then layouts.padding i at else [])) }
+{
+    let mut out = Vec::new(alloc);
+    push_gap(&mut out, code, i, at)?;
+    Ok(out)
+}
+
 impl Plan {
     /// Returns the entry and all blocks. Errors: out of memory.
     pub(crate) fn layout(&self, alloc: Global, code: &Code) -> Result<Layout, AllocError>
@@ -44,6 +102,9 @@ impl Plan {
         let mut starts = Vec::new(alloc);
         let mut at = total(&insns);
         for i in 0..count + 1 {
+            let gap = padding(alloc, code, i, at)?;
+            at += total(&gap);
+            insns.extend_from_slice(&gap)?;
             starts.push(at)?;
             let block = self.block(alloc, code, i)?;
             at += total(&block);

@@ -8,8 +8,8 @@ use Rattle.native_steps.specs.Places.{Places, IsSomewhere}
 use Rattle.native_steps.specs.Sequences.{insn_code}
 use Rattle.native_code.specs.declared.insn.NativeInsn.{NativeInsn}
 use Rattle.native_code.specs.Heads.{leads_to}
-use Rattle.native_code.specs.Blocks.{plain, end_code, whole_code}
-use Rattle.native_code.specs.Layout.{code_length, offset_of, LeadsBelow}
+use Rattle.native_code.specs.Blocks.{plain, end_code}
+use Rattle.native_code.specs.Layout.{code_length, whole_code, offset_of, LeadsBelow}
 
 -- Registers that are somewhere in the first places are somewhere in the second ones.
 abbrev pub KeepsPlaces : Places → Places → Type 0

@@ -1,6 +1,7 @@
-use Rattle.native_code.proofs.Fitting.{offset-small}
+use Rattle.native_code.proofs.Fitting.{offset-small, heads-aligned}
 use Rattle.native_code.proofs.Leading.{inner-targets}
 use Rattle.native_code.proofs.theorems.layout_laws.Goals as goal
 
 pub returns : goal.returns
-returns c = record { small = λ p metered code ok places k h. offset-small p places metered code k ok h; targets = inner-targets }
+returns c =
+    record { small = λ p metered code ok places k h. offset-small p places metered code k ok h; targets = inner-targets; aligned = heads-aligned }
