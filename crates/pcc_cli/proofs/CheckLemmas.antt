@@ -42,7 +42,7 @@ module _ (gate : GateLaws) (policies : ReadsPolicies) (name file : List ℕ) whe
   unfolding policy_in
   checked-spelled text policy is = ap (λ r. policy_spelled r >>= judged_behind) is
 
-  checked-unspelled : (text : List ℕ) (flaw : PolicyFlaw) → policy_read text ≡ Err flaw
+  pub checked-unspelled : (text : List ℕ) (flaw : PolicyFlaw) → policy_read text ≡ Err flaw
       → checked_by text ≡ stops (no_policy_spelled flaw)
   unfolding policy_in
   checked-unspelled text flaw is = ap (λ r. policy_spelled r >>= judged_behind) is

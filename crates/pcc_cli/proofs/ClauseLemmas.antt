@@ -7,7 +7,6 @@ use Rattle.file_port.specs.Sink.{SinkState}
 use Rattle.file_port.specs.declared.port.Put.TheVariants as put
 use Rattle.policy_set.specs.Views.{PolicyView}
 use Rattle.policy_set.specs.Names.{policy_of}
-use Rattle.pcc_gate.specs.Accepted.{IsAccepted}
 use Rattle.pcc_lines.specs.Fixed.{bpf_too_long_line, container_too_long_line}
 use Rattle.pcc_stages.specs.declared.files.TheConstants.{MAX_FILE}
 use Rattle.pcc_commands.specs.declared.stages.TheConstants.{MAX_PROGRAM_FILE}
@@ -19,14 +18,16 @@ use Rattle.pcc_stages.specs.Stage.{Stage, stops, gives, reads, Follows}
 use Rattle.pcc_stages.specs.Texts.{texts}
 use Rattle.pcc_stages.proofs.StageLemmas.{follows-join, happens-join}
 use Rattle.pcc_commands.specs.Tasks.{stage_of, task_of, task_of_command}
-use Rattle.pcc_cli.specs.Headline.{IsNoProgram, ToldOf, StopsAt, IsVerdict, IsFirstVerdict, Checks, ChecksFrom, without_policy, with_policy, RunsCode}
-use Rattle.pcc_cli.specs.Headline.{not_accepted, accepted, Makes, not_made, made, ProvesExactly, IsUnproved, CompilesTo, CompilesExactly}
+use Rattle.pcc_cli.specs.Headline.{IsNoProgram, ToldOf, IsVerdict, IsFirstVerdict, Checks, ChecksFrom, without_policy, with_policy, RunsCode}
+use Rattle.pcc_cli.specs.Headline.{not_accepted, accepted, Makes, not_made, made, Demonstrates, Proves, ProvesExactly, IsUnproved, IsUnprovedExactly}
+use Rattle.pcc_cli.specs.Headline.{CompilesTo, CompilesExactly}
 use Rattle.pcc_cli.specs.Clauses.{AreOfBytes, Came, came, out_of_memory, EndsAtOnce, Under, DoesNothing, DoesCheck, DoesCheckFrom, DoesRun}
-use Rattle.pcc_cli.specs.Clauses.{DoesProve, DoesCompile}
+use Rattle.pcc_cli.specs.Clauses.{DoesProve, DoesDemo, DoesCompile}
 use Rattle.pcc_cli.specs.Means.{MayDo, KeepsClauses}
 use Rattle.pcc_cli.proofs.EndLemmas.{Ended, ended_of, ended_at_once}
-use Rattle.pcc_cli.proofs.HeadlineLemmas.{CommandLaws, does, proved_told}
-use Rattle.pcc_commands.specs.Stages.Proving.{proved_in}
+use Rattle.pcc_cli.proofs.HeadlineLemmas.{CommandLaws, does}
+use Rattle.pcc_cli.proofs.ProveLemmas.{unproved_some}
+use Rattle.pcc_cli.proofs.DemoLemmas.{filter_policy, DemoExactly, demonstrates_some}
 
 -- ---- events behind others
 
@@ -192,15 +193,19 @@ module _ (laws : CommandLaws) (words : List (List ℕ)) (e e' : List Event) (f g
 
   did_prove : DoesProve words e e' s t status
   did_prove policy input output is =
-      let exactly : PolicyView → List Event → Exit → Type 0 = proving ProvesExactly (λ under. StopsAt (proved_in under)) input output in
-      let roughly : PolicyView → List Event → Exit → Type 0 = proving (λ under b out. IsAccepted under out) (λ under. IsUnproved) input output in
+      let exactly : PolicyView → List Event → Exit → Type 0 = proving ProvesExactly IsUnprovedExactly input output in
+      let roughly : PolicyView → List Event → Exit → Type 0 = proving Proves (λ under. IsUnproved) input output in
       weaker (Under (policy_of policy) exactly) (Under (policy_of policy) roughly)
       (under_weaker (policy_of policy) exactly roughly
-      (λ under. makes_weaker input output MAX_FILE (ProvesExactly under) (λ b out. IsAccepted under out)
-      (ToldOf (StopsAt (proved_in under)) input container_too_long_line) (ToldOf IsUnproved input container_too_long_line)
-      (λ b out proves. proves.accepted)
-      (told_weaker (StopsAt (proved_in under)) IsUnproved (proved_told under) input container_too_long_line)))
+      (λ under. makes_weaker input output MAX_FILE (ProvesExactly under) (Proves under)
+      (ToldOf (IsUnprovedExactly under) input container_too_long_line) (ToldOf IsUnproved input container_too_long_line)
+      (λ b out proves. proves.proves)
+      (told_weaker (IsUnprovedExactly under) IsUnproved (unproved_some under) input container_too_long_line)))
       e e' s t status (did (prove policy input output) is)
+
+  did_demo : DoesDemo words e e' s t status
+  did_demo n is =
+      weaker (DemoExactly n) (Demonstrates (Proves filter_policy) IsUnproved n) (demonstrates_some n) e e' s t status (did (demo n) is)
 
   did_compile : DoesCompile words e e' s t status
   did_compile input output is =
@@ -223,7 +228,8 @@ module _ (laws : CommandLaws) (words : List (List ℕ)) (e e' : List Event) (f g
     assembles = λ policy input output version bound. did (asm policy input output version bound);
     proves = did_prove;
     proves_exactly = λ policy input output. did (prove policy input output);
-    demonstrates = λ n. did (demo n);
+    demonstrates = did_demo;
+    demonstrates_exactly = λ n. did (demo n);
     upgrades = λ input output. did (upgrade input output);
     hosts = λ script. did (host script);
     compiles = did_compile;

@@ -10,6 +10,8 @@ use Rattle.bpf_words.specs.declared.fault.BpfFlaw.{BpfFlaw}
 use Rattle.bpf_words.specs.Programs.{IsProgram}
 use Rattle.bpf_words.specs.Flaws.{MeansFlaw}
 use Rattle.bpf_words.specs.Reading.{AreBytes, HasInsns, program_of}
+use Rattle.bpf_code.specs.Blocks.{bpf_code}
+use Rattle.bpf_condition.specs.Invariants.{bpf_invariants}
 use Rattle.bpf_compile.specs.Compiled.{IsCompiled}
 use Rattle.bpf_compile.specs.Compilation.{bare_contents, compiled_container}
 use Rattle.bounds_prover.specs.Proving.{proved_container}
@@ -20,7 +22,9 @@ use Rattle.pcc_stages.proofs.RunLemmas.{is_stop, exit_at}
 use Rattle.pcc_stages.specs.Stages.Common.{refused}
 use Rattle.pcc_commands.specs.Stages.Proving.{container_proved}
 use Rattle.pcc_commands.specs.Stages.Compiling.{program_found, program_in, compiled_as, compiled_in}
-use Rattle.pcc_cli.specs.Headline.{ComesToFlags, CompilesExactly, IsNoProgram}
+use Rattle.pcc_cli.specs.Headline.{ComesToFlags, ClassMakes, CompilesExactly, IsNoProgram}
+use Rattle.pcc_cli.proofs.ProveLemmas.{class_of}
+use Rattle.pcc_cli.proofs.SourceLemmas.{plain-bytes}
 
 -- what is read of bytes is a program, by the laws
 pub record ReadsPrograms : Type 0 where
@@ -44,6 +48,13 @@ flags-come : (program : List Bpf) → IsProgram program → (out : List ℕ) →
     → (a : IsAccepted (built_in Filter) out) → ComesToFlags program a.code
 flags-come program is out c a packet held long =
     let few = is.few in c.flags a.contents a.code a.marks a.accepts packet 1000 held long (omega (arith, few))
+
+-- the container is what the class makes of the one without a proof
+compiled_exactly : (program : List Bpf) (out : List ℕ) → compiled_container program ≡ Ok out
+    → ClassMakes (built_in Filter) (encoding_of (bare_contents program)) (Ok out)
+unfolding compiled_container
+compiled_exactly program out e =
+    class_of (built_in Filter) (encoding_of (bare_contents program)) out (plain-bytes (bpf_invariants program) (bpf_code program)) e
 
 -- what a stage gives
 abbrev given_value : {A : Type 0} → A → Stage A → A
@@ -80,7 +91,7 @@ module _ (reads_programs : ReadsPrograms) (compiles_programs : CompilesPrograms)
             accepted = compiled.accepted;
             flags = λ a. flags-come program program_is out compiled a;
           };
-          compiled = made.1 ∙ ap Ok same;
+          compiled = compiled_exactly program out (made.1 ∙ ap Ok same);
         }
 
     told_by : (exit : Exit) → compiled_in bytes ≡ stops exit → (r : Result (List Bpf) BpfFlaw) → program_of bytes ≡ r

@@ -1,5 +1,6 @@
 -- What follows a stage, how a command ends, and what `check` means.
-use Rattle.std.proofs.Common.{◌≡◌, ℕ, ◌⊎◌, inl, inr, false, true≢false, List, [], ◌∷◌, ◌++◌, Option, Some, None, is_some, refl, sym, ap, ◌∙◌, subst, arith}
+use Rattle.std.proofs.Common.{◌≡◌, ℕ, ◌≤◌, ◌⊎◌, inl, inr, false, true≢false, List, [], ◌∷◌, ◌++◌}
+use Rattle.std.proofs.Common.{length, Option, Some, None, is_some, refl, sym, ap, ◌∙◌, subst, arith}
 use Rattle.file_port.specs.Events.{Given, whole, missing, too_long, failed, no_memory, Event, was_read, was_written, was_put}
 use Rattle.file_port.specs.Files.{FilesState}
 use Rattle.file_port.specs.declared.Put.{Put}
@@ -190,6 +191,44 @@ pub second_bytes : (name other : List ℕ) (max most : ℕ) (first given : Given
     → events ≡ was_read name max first ∷ was_read other most given ∷ [] → Happens events f g → AreOctets given
 second_bytes name other max most first given events f g is h =
     let at : Happens (was_read name max first ∷ was_read other most given ∷ []) f g = subst (λ es. Happens es f g) is h in at.3.2
+
+-- the event that was first asked for is the first
+pub first_event : (stage : Stage Effect) (events : List Event) (exit : Exit) (e : Ended stage events exit) (first : Event) (rest : List Event)
+    → e.asked ≡ first ∷ rest → (more : List Event) × (events ≡ first ∷ more)
+first_event stage events exit e first rest is = by e.does
+  where
+    by : ((events ≡ e.asked) × (exit ≡ end_at e.later) × (change_at e.later ≡ None))
+        ⊎ ((text : List ℕ) × (to : List ℕ) × (bytes : List ℕ) × (answer : Put) × (e.later ≡ gives (record { text = text; change = Some (to, bytes) }))
+        × (events ≡ e.asked ++ was_written to bytes answer ∷ []) × (exit ≡ written_exit texts to text answer))
+        → (more : List Event) × (events ≡ first ∷ more)
+    by (inl d) = (rest, d.0 ∙ is)
+    by (inr d) = (rest ++ was_written d.1 d.2 d.3 ∷ [], d.5 ∙ ap (λ es. es ++ was_written d.1 d.2 d.3 ∷ []) is)
+
+-- what it gave are as many bytes as were asked for
+pub given_short : (name : List ℕ) (max : ℕ) (b : List ℕ) (rest events : List Event) (f g : FilesState) → events ≡ was_read name max (whole b) ∷ rest
+    → Happens events f g → length b ≤ max
+given_short name max b rest events f g is h =
+    let at : Happens (was_read name max (whole b) ∷ rest) f g = subst (λ es. Happens es f g) is h in at.1.within
+
+-- a command that asks for nothing
+pub asks_nothing : (s : Stage Effect) → is_read s ≡ false → change_at s ≡ None
+    → (events : List Event) (exit : Exit) → Ended s events exit
+    → (events ≡ []) × (exit ≡ end_at s)
+asks_nothing s none silent events exit e = by e.does
+  where
+    last : (e.asked ≡ []) × (e.later ≡ s)
+    last = no_read s none e.asked e.later e.follows
+
+    by : ((events ≡ e.asked) × (exit ≡ end_at e.later) × (change_at e.later ≡ None))
+        ⊎ ((text : List ℕ) × (to : List ℕ) × (bytes : List ℕ) × (answer : Put)
+        × (e.later ≡ gives (record { text = text; change = Some (to, bytes) }))
+        × (events ≡ e.asked ++ was_written to bytes answer ∷ [])
+        × (exit ≡ written_exit texts to text answer))
+        → (events ≡ []) × (exit ≡ end_at s)
+    by (inl d) = (d.0 ∙ last.0, d.1 ∙ ap end_at last.1)
+    by (inr d) =
+        let none : None ≡ Some (d.1, d.2) = sym silent ∙ ap change_at (sym last.1 ∙ d.4) in
+        absurd (true≢false (sym (ap is_some none)))
 
 -- ---- check
 

@@ -26,9 +26,6 @@ use Rattle.pcc_gate.specs.declared.refusal.Refusal.{Refusal}
 use Rattle.pcc_gate.specs.Accepted.{IsAccepted}
 use Rattle.pcc_gate.specs.First.{first_refusal}
 use Rattle.pcc_gate.specs.Safe.{AcceptedSafe, AcceptedReturns}
-use Rattle.bounds_prover.specs.declared.fault.ProveFlaw.{ProveFlaw}
-use Rattle.bounds_prover.specs.Proving.{proved_container}
-use Rattle.bounds_prover.specs.ProvedLaws.{ProvedAccepted}
 use Rattle.gate_upgrade.specs.declared.fault.UpgradeFlaw.{UpgradeFlaw}
 use Rattle.gate_upgrade.specs.Upgrading.{upgraded_container}
 use Rattle.gate_upgrade.specs.Upgrades.{IsUpgrade}
@@ -54,7 +51,7 @@ use Rattle.pcc_commands.specs.declared.stages.TheConstants.{MAX_PROGRAM_FILE}
 use Rattle.pcc_commands.specs.Stages.Writing.{writing}
 use Rattle.pcc_commands.specs.Stages.Judging.{stops_if_refused, accepted_in, accepted_code_in, accepted_of, accepted_code_of}
 use Rattle.pcc_commands.specs.Stages.Assembling.{assembled_in, assembled_of}
-use Rattle.pcc_commands.specs.Stages.Proving.{container_proved, proved_in, proved_of}
+use Rattle.pcc_commands.specs.Stages.Proving.{proved_in, proved_of}
 use Rattle.pcc_commands.specs.Stages.Upgrading.{container_upgraded, upgraded_in, upgraded_of}
 use Rattle.pcc_commands.specs.Stages.Compiling.{compiled_in, compiled_of}
 use Rattle.pcc_commands.specs.Commands.Assemble.{asm_command}
@@ -66,7 +63,7 @@ use Rattle.pcc_commands.specs.Commands.Prove.{prove_command}
 use Rattle.pcc_commands.specs.Commands.Reference.{ref_command}
 use Rattle.pcc_commands.specs.Commands.Running.{run_command}
 use Rattle.pcc_commands.specs.Commands.Upgrade.{upgrade_command}
-use Rattle.pcc_commands.specs.Commands.Demo.{demo_effect, demo_policy, demo_command}
+use Rattle.pcc_commands.specs.Commands.Demo.{demo_command}
 use Rattle.pcc_commands.specs.Tasks.{stage_of}
 use Rattle.packet_store.proofs.StartLemmas.{start_from-good, start_from-state}
 use Rattle.packet_store.proofs.Meeting.{start_from-meets}
@@ -75,17 +72,22 @@ use Rattle.word_ops.specs.Rights.{Rights}
 use Rattle.alpha_turns.specs.Parts.{AreApart, LieIn, LieBetween, part_from}
 use Rattle.agent_host.specs.declared.host.TheConstants.{MAX_AGENTS}
 use Rattle.agent_host.specs.Agents.{base_of}
-use Rattle.pcc_cli.specs.Headline.{agent_part, StaysInPart, AgentsStayInParts, ToldOf, StopsAt, IsFirstVerdict, IsJudged, IsRunOn, on_packets}
+use Rattle.pcc_cli.specs.Headline.{agent_part, StaysInPart, AgentsStayInParts, ToldOf, IsFirstVerdict, IsJudged, IsRunOn, on_packets}
 use Rattle.pcc_cli.specs.Headline.{no_packets, IsRunBy, Checks, RunsCode, not_accepted, accepted, Refs, no_code, ran, Makes, not_made, made}
-use Rattle.pcc_cli.specs.Headline.{Demonstrates, demonstrated, not_demonstrated, AssemblesTo, IsUnproved, ProvesExactly, UpgradesTo, IsNoUpgrade}
+use Rattle.pcc_cli.specs.Headline.{IsWithoutCode, AssemblesTo, IsNoSource, ProvesExactly, IsUnprovedExactly, UpgradesTo, IsNoUpgrade}
 use Rattle.pcc_cli.specs.Headline.{CompilesExactly, IsNoProgram, AcceptedRunsSafely, IsShortOrReturns, BoundedReturns}
 use Rattle.pcc_cli.specs.Clauses.{Under}
 use Rattle.pcc_cli.specs.Means.{MayDo}
 use Rattle.pcc_commands.proofs.RunLemmas.{code_given, accepted_code_of_bytes}
 use Rattle.pcc_cli.proofs.CheckLemmas.{ReadsPolicies, checks_from}
 use Rattle.pcc_cli.proofs.CompileLemmas.{ReadsPrograms, CompilesPrograms, compiles, told}
-use Rattle.pcc_cli.proofs.TaskLemmas.{code_in-ends, assembled_in-ends, proved_in-ends, upgraded_in-ends, compiled_in-ends, demo_ends}
-use Rattle.pcc_cli.proofs.EndLemmas.{GateLaws, Ended, change_at, checks, end_at, ended_at_once, ended_once, first_read, given_bytes}
+use Rattle.pcc_cli.proofs.CodeLemmas.{Coded, coded_as, coded_not, code_has, coded}
+use Rattle.pcc_cli.proofs.DemoLemmas.{demonstrates}
+use Rattle.bounds_prover.specs.ProvedLaws.{ProvedAccepted}
+use Rattle.pcc_cli.proofs.ProveLemmas.{proves_of_stage, unproved_of_stage}
+use Rattle.pcc_cli.proofs.SourceLemmas.{AssemblerLaws, assembles_of_stage, no_source_of_stage}
+use Rattle.pcc_cli.proofs.TaskLemmas.{assembled_in-ends, proved_in-ends, upgraded_in-ends, compiled_in-ends}
+use Rattle.pcc_cli.proofs.EndLemmas.{GateLaws, Ended, change_at, checks, end_at, ended_at_once, ended_once, first_event, first_read, given_bytes, given_short}
 use Rattle.pcc_cli.proofs.EndLemmas.{second_bytes, no_read, read_once, shape, stopped_there, verdict, went_on-silent}
 use Rattle.pcc_cli.proofs.HostLemmas.{ReadsScripts, hosts}
 
@@ -100,12 +102,6 @@ told_of_stage Tells name line stage missing exit each stop = sym (ap exit_at sto
 told_of_stage Tells name line stage too_long exit each stop = sym (ap exit_at stop)
 told_of_stage Tells name line stage failed exit each stop = sym (ap exit_at stop)
 told_of_stage Tells name line stage no_memory exit each stop = sym (ap exit_at stop)
-
--- the same of the stage itself
-stops_told : {A : Type 0} (name line : List ℕ) (stage : List ℕ → Stage A) (given : Given) (exit : Exit) → went_on texts name
-    (refused line) stage given ≡ stops exit
-    → ToldOf (StopsAt stage) name line given exit
-stops_told name line stage given exit stop = told_of_stage (StopsAt stage) name line stage given exit (λ b is at. at) stop
 
 -- ---- run and ref
 
@@ -253,7 +249,7 @@ module _ (gate : GateLaws) (packet_laws : ReadsPackets) (under : PolicyView) (fi
         (result_lines under.kind (packet_result under code steps) 0 all))
         (accepted_code_of_bytes under b a.contents a.code a.marks a.accepts.passes none)
 
-    run_by-refused : (b : List ℕ) (r : Refusal) → first_refusal under b ≡ Some r → run_by b
+    pub run_by-refused : (b : List ℕ) (r : Refusal) → first_refusal under b ≡ Some r → run_by b
         ≡ stops (refused (refusal_line r))
     unfolding accepted_code_in accepted_in
     run_by-refused b r some =
@@ -354,7 +350,7 @@ module _ (packet_laws : ReadsPackets) (under : PolicyView) (file packets : List 
       (λ c. c >>= λ code. packets_of packets >>= λ all. printing
       (result_lines under.kind (packet_result under code steps) 0 all)) is
 
-  ref_by-stop : (b : List ℕ) (exit' : Exit) → code_in under b ≡ stops exit' → ref_by b ≡ stops exit'
+  pub ref_by-stop : (b : List ℕ) (exit' : Exit) → code_in under b ≡ stops exit' → ref_by b ≡ stops exit'
   ref_by-stop b exit' is =
       ap
       (λ c. c >>= λ code. packets_of packets >>= λ all. printing
@@ -371,7 +367,7 @@ module _ (packet_laws : ReadsPackets) (under : PolicyView) (file packets : List 
       (e : Ended (reads file MAX_FILE (refused container_too_long_line) ref_by) events exit) where
     ref_stopped : (given : Given) (exit' : Exit) (rest : List Event)
         → e.asked ≡ was_read file MAX_FILE given ∷ rest
-        → ToldOf (StopsAt (code_in under)) file container_too_long_line given exit'
+        → ToldOf (IsWithoutCode under) file container_too_long_line given exit'
         → went_on texts file (refused container_too_long_line) ref_by given ≡ stops exit'
         → Follows texts rest (went_on texts file (refused container_too_long_line) ref_by given)
         e.later → Refs under file packets steps events exit
@@ -380,30 +376,34 @@ module _ (packet_laws : ReadsPackets) (under : PolicyView) (file packets : List 
         (was_read file MAX_FILE given) events e.asked exit is
         (went_on texts file (refused container_too_long_line) ref_by given) stop follows e.does in
         no_code given there.0
-        (subst (ToldOf (StopsAt (code_in under)) file container_too_long_line given)
+        (subst (ToldOf (IsWithoutCode under) file container_too_long_line given)
         (sym there.1) why)
 
-    ref_code : (b : List ℕ) (rest : List Event)
-        → ((code : List Insn) × (code_in under b ≡ gives code))
-        ⊎ ((exit' : Exit) × (code_in under b ≡ stops exit'))
-        → e.asked ≡ was_read file MAX_FILE (whole b) ∷ rest → Follows texts rest (ref_by b) e.later
-        → Refs under file packets steps events exit
-    ref_code b rest (inl (code, found)) is follows =
+    ref_code : (b : List ℕ) (rest : List Event) → Coded under b → e.asked ≡ was_read file MAX_FILE (whole b) ∷ rest
+        → Follows texts rest (ref_by b) e.later → Refs under file packets steps events exit
+    ref_code b rest (coded_as c code h) is follows =
+        let found : code_in under b ≡ gives code = code_has under b c code h in
         let there = packets_there under code steps packets rest e.later
         (was_read file MAX_FILE (whole b)) events e.asked exit is (ref_by b)
         (ref_by-code b code found) follows e.ended e.does in
-        ran b code there.0 there.1 found
+        ran b c code there.0 there.1 h
         (run_told packet_laws under code steps packets there.0 exit
         (second_bytes file packets MAX_FILE MAX_FILE (whole b) there.0 events f g there.1 happened) there.2)
         (same_code b code found)
-    ref_code b rest (inr (exit', stop)) is follows =
-        ref_stopped (whole b) exit' rest is stop (ref_by-stop b exit' stop) follows
+    ref_code b rest (coded_not r first none stop) is follows =
+        ref_stopped (whole b) (refused (refusal_line r)) rest is
+        (record { refusal = r; first = first; told = refl; none = none })
+        (ref_by-stop b (refused (refusal_line r)) stop) follows
 
     ref_given : (given : Given) (rest : List Event) → e.asked ≡ was_read file MAX_FILE given ∷ rest → Follows texts rest
         (went_on texts file (refused container_too_long_line) ref_by given) e.later
         → Refs under file packets steps events exit
     ref_given (whole b) rest is follows =
-        ref_code b rest (shape (code_in under b) (code_in-ends under b)) is follows
+        let first = first_event (reads file MAX_FILE (refused container_too_long_line) ref_by) events exit e
+        (was_read file MAX_FILE (whole b)) rest is in
+        ref_code b rest
+        (coded under b (given_bytes file MAX_FILE (whole b) first.0 events f g first.1 happened)
+        (given_short file MAX_FILE b first.0 events f g first.1 happened)) is follows
     ref_given missing rest is follows = ref_stopped missing _ rest is refl refl follows
     ref_given too_long rest is follows = ref_stopped too_long _ rest is refl refl follows
     ref_given failed rest is follows = ref_stopped failed _ rest is refl refl follows
@@ -489,71 +489,6 @@ module _ (input output : List ℕ) (max : ℕ) (more : Exit) (made_of : List ℕ
         let r = first_read input max more copy_by e.asked e.later e.ended e.follows in
         copy_given r.given r.rest r.is r.follows
 
--- what the prover made is accepted
-proved_is : ProvedAccepted → (under : PolicyView) (b out : List ℕ) → IsPolicy under → IsBytes b
-    → (r : Result (List ℕ) ProveFlaw) → proved_container under b ≡ r → container_proved r
-    ≡ gives out → ProvesExactly under b out
-proved_is proved_accepted under b out kept held (Ok bytes) is e =
-    let same : Some bytes ≡ Some out = ap value_at e in
-    let at : proved_container under b ≡ Ok out =
-    is ∙ ap Ok (let found : bytes ≡ out = cc in found) in
-    record { proved = at; accepted = proved_accepted under b out kept held at }
-proved_is proved_accepted under b out kept held (Err fault) is e =
-    absurd (true≢false (ap is_stop e))
-
-proved_of_stage : ProvedAccepted → (under : PolicyView) (b out : List ℕ) → IsPolicy under
-    → IsBytes b → proved_in under b ≡ gives out → ProvesExactly under b out
-unfolding proved_in
-proved_of_stage proved_accepted under b out kept held e =
-    proved_is proved_accepted under b out kept held (proved_container under b) refl e
-
--- why nothing is proved
-unproved_is : (b : List ℕ) (exit : Exit) (r : Result (List ℕ) ProveFlaw) → container_proved r ≡ stops exit → IsUnproved b exit
-unproved_is b exit (Ok bytes) e = absurd (true≢false (sym (ap is_stop e)))
-unproved_is b exit (Err flaw) e = (flaw, sym (ap exit_at e))
-
-pub proved_told : (under : PolicyView) (b : List ℕ) (exit : Exit) → StopsAt (proved_in under) b exit → IsUnproved b exit
-unfolding proved_in
-proved_told under b exit e = unproved_is b exit (proved_container under b) e
-
--- ---- demo
-
-demo-silent : {A : Type 0} (s : Stage A) (line : A → List ℕ) → change_at (s >>= λ x. printing (line x)) ≡ None
-demo-silent (stops exit) line = refl
-demo-silent (gives x) line = refl
-demo-silent (reads name max more on) line = refl
-
--- a command that asks for nothing
-asks_nothing : (s : Stage Effect) → is_read s ≡ false → change_at s ≡ None
-    → (events : List Event) (exit : Exit) → Ended s events exit
-    → (events ≡ []) × (exit ≡ end_at s)
-asks_nothing s none silent events exit e = by e.does
-  where
-    last : (e.asked ≡ []) × (e.later ≡ s)
-    last = no_read s none e.asked e.later e.follows
-
-    by : ((events ≡ e.asked) × (exit ≡ end_at e.later) × (change_at e.later ≡ None))
-        ⊎ ((text : List ℕ) × (to : List ℕ) × (bytes : List ℕ) × (answer : Put)
-        × (e.later ≡ gives (record { text = text; change = Some (to, bytes) }))
-        × (events ≡ e.asked ++ was_written to bytes answer ∷ [])
-        × (exit ≡ written_exit texts to text answer))
-        → (events ≡ []) × (exit ≡ end_at s)
-    by (inl d) = (d.0 ∙ last.0, d.1 ∙ ap end_at last.1)
-    by (inr d) =
-        let none : None ≡ Some (d.1, d.2) = sym silent ∙ ap change_at (sym last.1 ∙ d.4) in
-        absurd (true≢false (sym (ap is_some none)))
-
--- `demo`, by the stage that it is
-demo_by : (n : ℕ) (events : List Event) (exit : Exit) (s : Stage Effect) → demo_command n ≡ s
-    → is_read s ≡ false → change_at s ≡ None → (events ≡ []) × (exit ≡ end_at s)
-    → Demonstrates n events exit
-demo_by n events exit (stops exit') is none silent ends =
-    not_demonstrated ends.0 (is ∙ ap stops (sym ends.1))
-demo_by n events exit (gives effect) is none silent ends =
-    let shows : Change → Stage Effect = λ c. gives (record { text = effect.text; change = c }) in
-    demonstrated effect.text ends.0 (is ∙ ap shows silent) ends.1
-demo_by n events exit (reads name max more on) is none silent ends = absurd (true≢false none)
-
 -- ---- upgrade
 
 -- what containers are upgraded to, by the laws
@@ -593,19 +528,6 @@ not_upgraded_of laws b exit held e = not_upgraded_is laws b exit held (upgraded_
 
 -- ---- by what the arguments are
 
--- `demo`, whose policy was looked up
-demo_shows : (n : ℕ) (events : List Event) (exit : Exit) (p : Option PolicyView)
-    → demo_command n ≡ (policy_found p >>= λ under. demo_effect under n)
-    → Ended (policy_found p >>= λ under. demo_effect under n) events exit
-    → Demonstrates n events exit
-unfolding demo_effect
-demo_shows n events exit None is e =
-    not_demonstrated (ended_at_once (refused unknown_policy_line) events exit e).0
-    (is ∙ ap stops (sym (ended_at_once (refused unknown_policy_line) events exit e).1))
-demo_shows n events exit (Some under) is e =
-    demo_by n events exit (demo_effect under n) is (demo_ends under n) (demo-silent _ _)
-    (asks_nothing (demo_effect under n) (demo_ends under n) (demo-silent _ _) events exit e)
-
 -- a command whose policy was looked up
 under_named : (May : PolicyView → List Event → Exit → Type 0) (next : PolicyView → Stage Effect) (events : List Event) (exit : Exit)
     → ((under : PolicyView) → IsPolicy under → Ended (next under) events exit → May under events exit)
@@ -616,7 +538,8 @@ under_named May next events exit each (Some under) kept e = each under kept e
 -- what holds by the laws of the crates below
 pub record CommandLaws : Type 0 where
   pub gate : GateLaws
-  pub proved : ProvedAccepted
+  pub prover : ProvedAccepted
+  pub assembler : AssemblerLaws
   pub programs : ReadsPrograms
   pub compiled : CompilesPrograms
   pub policies : ReadsPolicies
@@ -631,26 +554,32 @@ module _ (laws : CommandLaws) where
   does (asm policy input output version bound) events exit f g happened e =
       under_named
       (λ under. Makes input output MAX_SOURCE (AssemblesTo version bound under)
-      (ToldOf (StopsAt (assembled_in version bound under)) input source_too_long_line))
+      (ToldOf (IsNoSource version bound) input source_too_long_line))
       (λ under. reads input MAX_SOURCE (refused source_too_long_line)
       (λ b. assembled_in version bound under b >>= λ out. writing output out)) events exit
       (λ under kept e. makes input output MAX_SOURCE (refused source_too_long_line)
       (assembled_in version bound under) (assembled_in-ends version bound under) (AssemblesTo version bound under)
-      (ToldOf (StopsAt (assembled_in version bound under)) input source_too_long_line) events exit
-      (λ b out rest split is. is)
-      (λ given exit' rest split why. stops_told input source_too_long_line (assembled_in version bound under) given exit' why) e)
+      (ToldOf (IsNoSource version bound) input source_too_long_line) events exit
+      (λ b out rest split is. assembles_of_stage laws.assembler version bound under b out is)
+      (λ given exit' rest split why. told_of_stage (IsNoSource version bound) input source_too_long_line
+      (assembled_in version bound under) given exit'
+      (λ b whole_is at. no_source_of_stage laws.assembler version bound under b exit' at) why) e)
       (policy_of policy) (policy_of-is policy) e
   does (prove policy input output) events exit f g happened e =
       under_named
-      (λ under. Makes input output MAX_FILE (ProvesExactly under) (ToldOf (StopsAt (proved_in under)) input container_too_long_line))
+      (λ under. Makes input output MAX_FILE (ProvesExactly under) (ToldOf (IsUnprovedExactly under) input container_too_long_line))
       (λ under. reads input MAX_FILE (refused container_too_long_line)
       (λ b. proved_in under b >>= λ out. writing output out)) events exit
       (λ under kept e. makes input output MAX_FILE (refused container_too_long_line)
       (proved_in under) (proved_in-ends under) (ProvesExactly under)
-      (ToldOf (StopsAt (proved_in under)) input container_too_long_line) events exit
-      (λ b out rest split is. proved_of_stage laws.proved under b out kept
+      (ToldOf (IsUnprovedExactly under) input container_too_long_line) events exit
+      (λ b out rest split is. proves_of_stage laws.prover under kept b out
       (given_bytes input MAX_FILE (whole b) rest events f g split happened) is)
-      (λ given exit' rest split why. stops_told input container_too_long_line (proved_in under) given exit' why) e)
+      (λ given exit' rest split why. told_of_stage (IsUnprovedExactly under) input container_too_long_line
+      (proved_in under) given exit'
+      (λ b whole_is at. unproved_of_stage under b exit'
+      (given_bytes input MAX_FILE (whole b) rest events f g
+      (split ∙ ap (λ x. was_read input MAX_FILE x ∷ rest) whole_is) happened) at) why) e)
       (policy_of policy) (policy_of-is policy) e
   does (check (named policy) file) events exit f g happened e =
       under_named (λ under. Checks IsFirstVerdict under file)
@@ -673,7 +602,7 @@ module _ (laws : CommandLaws) where
       (λ under kept e. refs laws.packet_files under file packets steps events exit f g happened e) (policy_of policy)
       (policy_of-is policy) e
   does (demo n) events exit f g happened e =
-      demo_shows n events exit (policy_of demo_policy) refl e
+      demonstrates laws.assembler laws.prover n events exit e
   does (upgrade input output) events exit f g happened e =
       makes input output MAX_FILE (refused container_too_long_line) upgraded_in upgraded_in-ends
       UpgradesTo (ToldOf IsNoUpgrade input container_too_long_line) events exit

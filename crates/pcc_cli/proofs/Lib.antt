@@ -1,3 +1,7 @@
+pub mod CodeLemmas
+pub mod SourceLemmas
+pub mod ProveLemmas
+pub mod DemoLemmas
 pub mod TaskLemmas
 pub mod CompileLemmas
 pub mod EndLemmas
@@ -6,3 +10,5 @@ pub mod HostLemmas
 pub mod HeadlineLemmas
 pub mod ClauseLemmas
 pub mod MeansLemmas
+pub mod BackLemmas
+pub mod RunsLemmas

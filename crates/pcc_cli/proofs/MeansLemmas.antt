@@ -1,9 +1,9 @@
 -- From the clauses of the commands to what a run of any command means: where memory ran out, the reads are those that the
 -- command's definition asks for.
-use Rattle.std.proofs.Common.{◌≡◌, ℕ, suc, Bool, true, false, true≢false, List, [], ◌∷◌, ◌++◌, Option, Some, None, Result, Ok, Err}
-use Rattle.std.proofs.Common.{refl, sym, ap, ◌∙◌, subst}
+use Rattle.std.proofs.Common.{◌≡◌, ℕ, suc, ◌<◌, ◌⊎◌, inl, inr, Bool, true, false, true≢false, List, [], ◌∷◌, ◌++◌, Option, Some, None, Result, Ok, Err}
+use Rattle.std.proofs.Common.{refl, sym, ap, ◌∙◌, subst, arith}
 use Rattle.std.proofs.lemmas.List.{append-nil}
-use Rattle.file_port.specs.Events.{Given, whole, Event, was_read, was_written, was_put}
+use Rattle.file_port.specs.Events.{Given, whole, missing, too_long, failed, no_memory, Event, was_read, was_written, was_put}
 use Rattle.file_port.specs.Sink.{SinkState}
 use Rattle.file_port.specs.declared.Put.{Put}
 use Rattle.alpha_words.specs.declared.insn.Insn.{Insn}
@@ -18,16 +18,18 @@ use Rattle.agent_script.specs.Scripts.{ScriptView}
 use Rattle.agent_script.specs.Texts.{SpellsScript}
 use Rattle.pcc_gate.specs.Accepted.{IsAccepted}
 use Rattle.pcc_gate.specs.First.{first_refusal}
+use Rattle.pcc_gate.specs.Refusals.{IsFirstRefusal}
+use Rattle.pcc_gate.specs.declared.refusal.Refusal.{Refusal}
 use Rattle.pcc_words.specs.Invocations.{named, from_file, Invocation, asm, prove, check, run, ref, demo, upgrade, host, bpf, command_of}
-use Rattle.pcc_lines.specs.Fixed.{accepted_line, bpf_too_long_line, container_too_long_line, packets_too_long_line, policy_too_long_line}
+use Rattle.pcc_lines.specs.Fixed.{accepted_line, bpf_too_long_line, container_too_long_line, packets_too_long_line, policy_too_long_line, unknown_policy_line}
 use Rattle.pcc_lines.specs.Fixed.{script_too_long_line, source_too_long_line}
 use Rattle.pcc_stages.specs.Exits.{Exit}
-use Rattle.pcc_stages.specs.Runs.{Effect, NoneFailed}
-use Rattle.pcc_stages.specs.Stage.{Stage, gives, reads, ◌>>=◌, went_on, Follows}
+use Rattle.pcc_stages.specs.Runs.{Effect, AreOctets, NoneFailed, done_exit}
+use Rattle.pcc_stages.specs.Stage.{Stage, stops, gives, reads, ◌>>=◌, went_on, Follows}
 use Rattle.pcc_stages.specs.Stages.Common.{refused, policy_found, printing}
 use Rattle.packet_store.specs.Results.{packet_result}
 use Rattle.pcc_lines.specs.Results.{result_lines}
-use Rattle.pcc_stages.specs.Stages.Containers.{code_of}
+use Rattle.pcc_stages.specs.Stages.Containers.{code_in, code_of}
 use Rattle.pcc_stages.specs.Stages.Packets.{packets_in}
 use Rattle.pcc_stages.specs.Stages.Policies.{policy_from}
 use Rattle.pcc_stages.specs.declared.files.TheConstants.{MAX_FILE, MAX_POLICY_FILE}
@@ -45,21 +47,24 @@ use Rattle.pcc_commands.specs.Commands.Upgrade.{upgrade_command}
 use Rattle.pcc_commands.specs.Stages.Assembling.{assembled_in, assembled_of}
 use Rattle.pcc_commands.specs.Stages.Compiling.{compiled_in, compiled_of}
 use Rattle.pcc_commands.specs.Stages.Hosting.{script_of, script_found, script_in, Member, packet_of, load_of, told_of, for_agent, agents_from}
-use Rattle.pcc_commands.specs.Stages.Judging.{accepted_in, accepted_of, accepted_code_in, accepted_code_of}
+use Rattle.pcc_commands.specs.Stages.Judging.{stops_if_refused, accepted_in, accepted_of, accepted_code_in, accepted_code_of}
 use Rattle.pcc_commands.specs.Stages.Proving.{proved_in, proved_of}
 use Rattle.pcc_commands.specs.Stages.Upgrading.{upgraded_in, upgraded_of}
 use Rattle.pcc_commands.specs.Stages.Writing.{writing}
 use Rattle.pcc_commands.specs.Tasks.{stage_of}
 use Rattle.pcc_commands.specs.declared.stages.TheConstants.{MAX_PROGRAM_FILE}
 use Rattle.pcc_commands.proofs.RunLemmas.{accepted_code_of_bytes}
-use Rattle.pcc_cli.specs.Headline.{ToldOf, StopsAt, AssemblesTo, ProvesExactly, UpgradesTo, IsNoUpgrade, CompilesExactly, IsNoProgram}
+use Rattle.pcc_cli.specs.Headline.{ToldOf, AssemblesTo, IsNoSource, ProvesExactly, IsUnprovedExactly, UpgradesTo, IsNoUpgrade, CompilesExactly, IsNoProgram}
 use Rattle.pcc_cli.specs.Headline.{IsFirstVerdict, Checks, ChecksFrom, without_policy, with_policy, RunsCode, not_accepted, accepted, Refs, no_code}
-use Rattle.pcc_cli.specs.Headline.{ran, Demonstrates, demonstrated, not_demonstrated, Makes, not_made, made, packet_given, member_with, LoadsMember}
+use Rattle.pcc_cli.specs.Headline.{ran, Demonstrates, demonstrated, not_assembled, not_proved, Makes, not_made}
+use Rattle.pcc_cli.specs.Headline.{made, IsJudged, agent_exit, packet_given, member_with, LoadsMember}
 use Rattle.pcc_cli.specs.Headline.{no_policy, no_container, has_container, LoadsMembers, all, ended, ended_later, loaded, Hosts, no_script}
 use Rattle.pcc_cli.specs.Headline.{not_loaded, took_turns}
 use Rattle.pcc_cli.specs.Clauses.{AreOfBytes, Came, came, out_of_memory, EndsAtOnce, Under}
 use Rattle.pcc_stages.specs.Requests.{usage_exit}
 use Rattle.pcc_cli.specs.Means.{MayDo, Means, came_to, ran_out, MeansIfCommand, KeepsClauses}
+use Rattle.pcc_cli.proofs.CodeLemmas.{code_has}
+use Rattle.pcc_cli.proofs.DemoLemmas.{filter_policy}
 use Rattle.pcc_cli.proofs.EndLemmas.{GateLaws, judged_by}
 use Rattle.pcc_cli.proofs.CheckLemmas.{ReadsPolicies, checked_by, checked-spelled}
 use Rattle.pcc_cli.proofs.HostLemmas.{ReadsScripts, member, member_stage, first_stage, by_given, packet_reads}
@@ -79,7 +84,7 @@ abbrev tail_of : List Event → List Event
 tail_of [] = []
 tail_of (x ∷ events) = events
 
-nil_split : (events rest : List Event) → events ++ rest ≡ [] → events ≡ []
+pub nil_split : (events rest : List Event) → events ++ rest ≡ [] → events ≡ []
 nil_split [] rest e = refl
 nil_split (x ∷ events) rest e = absurd (true≢false (ap is_nil (sym e)))
 
@@ -112,10 +117,10 @@ splits (x ∷ events) rest (y ∷ first) more e =
 -- ---- what events reach
 
 -- the events are the first reads of the stage
-abbrev Reach : List Event → Stage Effect → Type 0
+abbrev pub Reach : List Event → Stage Effect → Type 0
 Reach events stage = (later : Stage Effect) × Follows texts events stage later
 
-reach_nothing : (events : List Event) (stage : Stage Effect) → events ≡ [] → Reach events stage
+pub reach_nothing : (events : List Event) (stage : Stage Effect) → events ≡ [] → Reach events stage
 reach_nothing events stage is = (stage, subst (λ es. Follows texts es stage stage) (sym is) refl)
 
 module _ (name : List ℕ) (max : ℕ) (more : Exit) (on : List ℕ → Stage Effect) (given : Given) (events rest : List Event) where
@@ -203,17 +208,19 @@ module _ (gate : GateLaws) (packet_laws : ReadsPackets) (under : PolicyView) (fi
       (reads file MAX_FILE (refused container_too_long_line) (ref_by packet_laws under file packets steps))
   reach_ref (no_code given is why) = reach_once file MAX_FILE (refused container_too_long_line)
       (ref_by packet_laws under file packets steps) given events rest is
-  reach_ref (ran b code given is found by same) =
+  reach_ref (ran b c code given is h by same) =
       reach_read file MAX_FILE (refused container_too_long_line) (ref_by packet_laws under file packets steps) (whole b) events rest
       (was_read packets MAX_FILE given ∷ []) is
-      (λ later at split. subst (λ s. Reach later s) (sym (ref_by-code packet_laws under file packets steps b code found))
+      (λ later at split. subst (λ s. Reach later s) (sym (ref_by-code packet_laws under file packets steps b code (code_has under b c code h)))
       (reach_once packets MAX_FILE (refused packets_too_long_line) (lines_behind under code steps) given later rest split))
 
 -- ---- demo
 
-reach_demo : (n : ℕ) (stage : Stage Effect) (events rest : List Event) (exit : Exit) → Demonstrates n (events ++ rest) exit → Reach events stage
-reach_demo n stage events rest exit (demonstrated text is shown end) = reach_nothing events stage (nil_split events rest is)
-reach_demo n stage events rest exit (not_demonstrated is stop) = reach_nothing events stage (nil_split events rest is)
+reach_demo : (IsProved : List ℕ → List ℕ → Type 0) (IsTold : List ℕ → Exit → Type 0) (n : ℕ) (stage : Stage Effect) (events rest : List Event) (exit : Exit)
+    → Demonstrates IsProved IsTold n (events ++ rest) exit → Reach events stage
+reach_demo IsProved IsTold n stage events rest exit (demonstrated is d) = reach_nothing events stage (nil_split events rest is)
+reach_demo IsProved IsTold n stage events rest exit (not_assembled is why) = reach_nothing events stage (nil_split events rest is)
+reach_demo IsProved IsTold n stage events rest exit (not_proved bare is assembled told) = reach_nothing events stage (nil_split events rest is)
 
 -- ---- host
 
@@ -298,6 +305,68 @@ module _ (gate : GateLaws) (a : ℕ) (one : LoadView) (next : Member → Stage E
       (sym (at_file gate a one next policy is_named))
       (judged_on gate a one next policy is_named b, record { more = _; on = _; asks = refl; goes = refl }, behind))
 
+  -- behind a container that isn't accepted, or wasn't read
+  judged_stop : (policy : PolicyView) (is_named : policy_of one.policy ≡ Some policy) (given : Given) (exit : Exit) → AreOctets given
+      → IsJudged IsFirstVerdict policy one.file given exit → 0 < exit.status
+      → went_on texts one.file (told_of a (refused container_too_long_line)) (judged_on gate a one next policy is_named) given ≡ stops (told_of a exit)
+  unfolding accepted_code_in accepted_in
+  judged_stop policy is_named (whole b) exit held judged more = by judged.judged
+    where
+      by : IsAccepted policy b ⊎ ((r : Refusal) × IsFirstRefusal policy b r) → judged_on gate a one next policy is_named b ≡ stops (told_of a exit)
+      by (inl it) =
+          let done : exit ≡ done_exit accepted_line = judged.verdict.accepted.1 it in
+          let wrong : exit.status ≡ 0 = ap (λ (x : Exit). x.status) done in absurd (omega (arith, wrong, more))
+      by (inr (r, first)) =
+          ap (λ x. for_agent a (coded gate a one next policy is_named (stops_if_refused x >>= λ accepted. code_in policy b)) >>= next)
+          ((gate.refusals policy b r held).1 first)
+          ∙ ap (λ x. stops (told_of a x)) (sym (judged.refused r first))
+  judged_stop policy is_named missing exit held judged more = ap (λ x. stops (told_of a x)) (sym judged)
+  judged_stop policy is_named too_long exit held judged more = ap (λ x. stops (told_of a x)) (sym judged)
+  judged_stop policy is_named failed exit held judged more = ap (λ x. stops (told_of a x)) (sym judged)
+  judged_stop policy is_named no_memory exit held judged more = ap (λ x. stops (told_of a x)) (sym judged)
+
+  -- no agent was found behind one that is
+  member_stop : (policy : PolicyView) (code : List Insn) (exit : Exit) (found : Result (List ℕ) Exit) → Err exit ≡ member_with policy code found
+      → (member_stage policy code found >>= next) ≡ stops exit
+  member_stop policy code exit (Ok packet) is = let wrong : Err exit ≡ Ok (member policy code packet) = is in absurd (cc)
+  member_stop policy code exit (Err other) is = let both : Err exit ≡ Err other = is in let same : other ≡ exit = cc in ap stops same
+
+  -- where no policy has the name
+  at_no_policy : policy_of one.policy ≡ None → load_stage ≡ stops (told_of a (refused unknown_policy_line))
+  unfolding load_of
+  at_no_policy unknown =
+      ap
+      (λ o. for_agent a (policy_found o >>= λ p. accepted_code_of p one.file >>= λ code. packet_of a p one.packets >>= λ packet. gives
+      (record { policy = p; code = code; packet = packet })) >>= next) unknown
+
+  -- a load that ended the command
+  stop_load : (events : List Event) (exit : Exit) → AreOfBytes events → LoadsMember a one events (Err exit) → Follows texts events load_stage (stops exit)
+  stop_load events exit held (no_policy unknown is why) =
+      let both : Err exit ≡ Err (agent_exit a unknown_policy_line) = why in
+      let same : exit ≡ agent_exit a unknown_policy_line = cc in
+      subst (λ es. Follows texts es load_stage (stops exit)) (sym is) (ap stops same ∙ sym (at_no_policy unknown))
+  stop_load events exit held (no_container policy given other is_named is judged more why) =
+      let bytes : AreOfBytes (was_read one.file MAX_FILE given ∷ []) = subst AreOfBytes is held in
+      let both : Err exit ≡ Err (told_of a other) = why in
+      let same : exit ≡ told_of a other = cc in
+      let goes = judged_stop policy is_named given other bytes.0 judged more in
+      subst (λ es. Follows texts es load_stage (stops exit)) (sym is)
+      (subst (λ s. Follows texts (was_read one.file MAX_FILE given ∷ []) s (stops exit)) (sym (at_file gate a one next policy is_named))
+      (_, record { more = _; on = _; asks = refl; goes = refl }, ap stops same ∙ sym goes))
+  stop_load events exit held (has_container policy b it given is_named is why) =
+      let bytes : AreOfBytes (was_read one.file MAX_FILE (whole b) ∷ was_read one.packets MAX_FILE given ∷ []) = subst AreOfBytes is held in
+      let reads_packets = at_packets gate a one next policy is_named b bytes.0 it in
+      let ends : went_on texts one.packets (told_of a (refused packets_too_long_line))
+      (packets_on gate a one next policy is_named b bytes.0 it) given ≡ stops exit =
+      at_member gate a one next policy is_named b bytes.0 it given ∙ member_stop policy it.code exit (packet_given a policy one.packets given) why in
+      let behind : Follows texts (was_read one.packets MAX_FILE given ∷ []) (judged_on gate a one next policy is_named b) (stops exit) =
+      subst (λ s. Follows texts (was_read one.packets MAX_FILE given ∷ []) s (stops exit)) (sym reads_packets)
+      (stops exit, record { more = _; on = _; asks = refl; goes = sym ends }, refl) in
+      subst (λ es. Follows texts es load_stage (stops exit)) (sym is)
+      (subst (λ s. Follows texts (was_read one.file MAX_FILE (whole b) ∷ was_read one.packets MAX_FILE given ∷ []) s (stops exit))
+      (sym (at_file gate a one next policy is_named))
+      (judged_on gate a one next policy is_named b, record { more = _; on = _; asks = refl; goes = refl }, behind))
+
 -- what was read by some of the events
 bytes_before : (first rest : List Event) → AreOfBytes (first ++ rest) → AreOfBytes first
 bytes_before [] rest held = tt
@@ -340,6 +409,46 @@ module _ (gate : GateLaws) where
             (follows-join first y (for_agent a (load_of a one) >>= others_on a loads next) (others_on a loads next agent) r.0
             (went_load gate a one (others_on a loads next) first agent (bytes_before first y bytes) one_is) there),
       )
+
+  -- where loads come to: their agents, or the exit of the one that ended the command
+  abbrev pub loads_end : (List Member → Stage Effect) → Result (List Member) Exit → Stage Effect
+  loads_end next (Ok agents) = next agents
+  loads_end next (Err exit) = stops exit
+
+  abbrev by_first : ℕ → LoadView → List LoadView → (List Member → Stage Effect) → Stage Effect
+  by_first a one loads next = for_agent a (load_of a one) >>= others_on a loads next
+
+  first_of_loads : (a : ℕ) (one : LoadView) (loads : List LoadView) (next : List Member → Stage Effect)
+      → by_first a one loads next ≡ (agents_from a (one ∷ loads) >>= next)
+  first_of_loads a one loads next =
+      sym (bind-assoc (for_agent a (load_of a one)) (λ agent. agents_from (suc a) loads >>= λ agents. gives (agent ∷ agents)) next)
+
+  -- behind a load that gave its agent
+  join_loads : (a : ℕ) (one : LoadView) (loads : List LoadView) (next : List Member → Stage Effect) (agent : Member) (first more : List Event)
+      (later : Stage Effect)
+      → AreOfBytes (first ++ more) → LoadsMember a one first (Ok agent)
+      → Follows texts more (agents_from (suc a) loads >>= λ agents. next (agent ∷ agents)) later
+      → Follows texts (first ++ more) (agents_from a (one ∷ loads) >>= next) later
+  join_loads a one loads next agent first more later held one_is behind =
+      subst (λ s. Follows texts (first ++ more) s later) (first_of_loads a one loads next)
+      (follows-join first more (by_first a one loads next) (others_on a loads next agent) later
+      (went_load gate a one (others_on a loads next) first agent (bytes_before first more held) one_is)
+      (subst (λ s. Follows texts more s later) (sym (bind-assoc (agents_from (suc a) loads) (λ agents. gives (agent ∷ agents)) next)) behind))
+
+  pub loads_follow : (a : ℕ) (loads : List LoadView) (next : List Member → Stage Effect) (events : List Event) (found : Result (List Member) Exit)
+      → AreOfBytes events → LoadsMembers a loads events found → Follows texts events (agents_from a loads >>= next) (loads_end next found)
+  loads_follow a loads next events found held all = refl
+  loads_follow a loads next events found held (ended {one = one} {loads = others} {exit = exit} one_is) =
+      subst (λ s. Follows texts events s (stops exit)) (first_of_loads a one others next)
+      (stop_load gate a one (others_on a others next) events exit held one_is)
+  loads_follow a loads next events found held
+      (ended_later {one = one} {loads = others} {first = first} {events = more} {agent = agent} {exit = exit} one_is rest_is) =
+      join_loads a one others next agent first more (stops exit) held one_is
+      (loads_follow (suc a) others (λ agents. next (agent ∷ agents)) more (Err exit) (bytes_behind first more held) rest_is)
+  loads_follow a loads next events found held
+      (loaded {one = one} {loads = others} {first = first} {events = more} {agent = agent} {agents = agents} one_is rest_is) =
+      join_loads a one others next agent first more (next (agent ∷ agents)) held one_is
+      (loads_follow (suc a) others (λ all_agents. next (agent ∷ all_agents)) more (Ok agents) (bytes_behind first more held) rest_is)
 
   reach_loads : (a : ℕ) (loads : List LoadView) (next : List Member → Stage Effect) (events rest whole_events : List Event)
       (found : Result (List Member) Exit)
@@ -387,24 +496,24 @@ module _ (gate : GateLaws) (scripts : ReadsScripts) (name : List ℕ) (events re
 -- ---- a run
 
 module _ (gate : GateLaws) (policies : ReadsPolicies) (packet_laws : ReadsPackets) (scripts : ReadsScripts) where
-  reach : (command : Invocation) (events rest : List Event) (exit : Exit) → AreOfBytes events → NoneFailed events → MayDo command (events ++ rest) exit
+  pub reach : (command : Invocation) (events rest : List Event) (exit : Exit) → AreOfBytes events → NoneFailed events → MayDo command (events ++ rest) exit
       → Reach events (stage_of command)
   unfolding asm_command prove_command check_command run_command ref_command demo_command upgrade_command host_command script_of bpf_command policy_from assembled_of proved_of upgraded_of accepted_of accepted_code_of code_of compiled_of accepted_in
   reach (asm policy input output version bound) events rest exit held clean may =
       under_reach (policy_of policy)
       (λ under. Makes input output MAX_SOURCE (AssemblesTo version bound under)
-      (ToldOf (StopsAt (assembled_in version bound under)) input source_too_long_line))
+      (ToldOf (IsNoSource version bound) input source_too_long_line))
       (λ under. reads input MAX_SOURCE (refused source_too_long_line)
       (λ b. assembled_in version bound under b >>= λ out. writing output out)) events rest exit
       (λ under m. reach_makes input output MAX_SOURCE (refused source_too_long_line)
       (λ b. assembled_in version bound under b >>= λ out. writing output out) (AssemblesTo version bound under)
-      (ToldOf (StopsAt (assembled_in version bound under)) input source_too_long_line) events rest exit clean m) may
+      (ToldOf (IsNoSource version bound) input source_too_long_line) events rest exit clean m) may
   reach (prove policy input output) events rest exit held clean may =
       under_reach (policy_of policy)
-      (λ under. Makes input output MAX_FILE (ProvesExactly under) (ToldOf (StopsAt (proved_in under)) input container_too_long_line))
+      (λ under. Makes input output MAX_FILE (ProvesExactly under) (ToldOf (IsUnprovedExactly under) input container_too_long_line))
       (λ under. reads input MAX_FILE (refused container_too_long_line) (λ b. proved_in under b >>= λ out. writing output out)) events rest exit
       (λ under m. reach_makes input output MAX_FILE (refused container_too_long_line) (λ b. proved_in under b >>= λ out. writing output out)
-      (ProvesExactly under) (ToldOf (StopsAt (proved_in under)) input container_too_long_line) events rest exit clean m) may
+      (ProvesExactly under) (ToldOf (IsUnprovedExactly under) input container_too_long_line) events rest exit clean m) may
   reach (check (named policy) file) events rest exit held clean may =
       under_reach (policy_of policy) (λ under. Checks IsFirstVerdict under file)
       (λ under. reads file MAX_FILE (refused container_too_long_line) (λ b. accepted_in under b >>= λ accepted. printing accepted_line)) events rest exit
@@ -419,7 +528,8 @@ module _ (gate : GateLaws) (policies : ReadsPolicies) (packet_laws : ReadsPacket
       under_reach (policy_of policy) (λ under. Refs under file packets steps)
       (λ under. reads file MAX_FILE (refused container_too_long_line) (ref_by packet_laws under file packets steps)) events rest exit
       (λ under r. reach_ref gate packet_laws under file packets steps events rest exit r) may
-  reach (demo n) events rest exit held clean may = reach_demo n (demo_command n) events rest exit may
+  reach (demo n) events rest exit held clean may =
+      reach_demo (ProvesExactly filter_policy) (IsUnprovedExactly filter_policy) n (demo_command n) events rest exit may
   reach (upgrade input output) events rest exit held clean may =
       reach_makes input output MAX_FILE (refused container_too_long_line) (λ b. upgraded_in b >>= λ out. writing output out)
       UpgradesTo (ToldOf IsNoUpgrade input container_too_long_line) events rest exit clean may
@@ -444,14 +554,14 @@ module _ (gate : GateLaws) (policies : ReadsPolicies) (packet_laws : ReadsPacket
       logged ∙ ap (λ es. e ++ es) (nil_split events rest (none_asked (events ++ rest) exit may)) ∙ append-nil e
 
   module _ (words : List (List ℕ)) (e e' : List Event) (s t : SinkState) (status : ℕ) (k : KeepsClauses words e e' s t status) where
-    of_command : (command : Invocation) → command_of words ≡ Some command → Came (MayDo command) e e' s t status
+    pub of_command : (command : Invocation) → command_of words ≡ Some command → Came (MayDo command) e e' s t status
     of_command (asm policy input output version bound) is = k.assembles policy input output version bound is
     of_command (prove policy input output) is = k.proves_exactly policy input output is
     of_command (check (named policy) file) is = k.refuses.checks policy file is
     of_command (check (from_file name) file) is = k.refuses.checks_from name file is
     of_command (run policy file packets steps) is = k.refuses.runs_code policy file packets steps is
     of_command (ref policy file packets steps) is = k.refers policy file packets steps is
-    of_command (demo n) is = k.demonstrates n is
+    of_command (demo n) is = k.demonstrates_exactly n is
     of_command (upgrade input output) is = k.upgrades input output is
     of_command (host script) is = k.hosts script is
     of_command (bpf input output) is = k.compiles_exactly input output is

@@ -4,23 +4,22 @@ use Rattle.std.specs.Prelude.{map, string_bytes}
 use Rattle.std.specs.Borrow.{MutBor}
 use denote.Triple.Both.{Both}
 use Rattle.file_port.specs.Events.{Event, was_read, was_written, was_put}
+use Rattle.file_port.specs.Files.{FilesState}
 use Rattle.file_port.specs.Sink.{SinkState}
 use Rattle.asm_text.specs.declared.limits.TheConstants.{MAX_SOURCE}
-use Rattle.policy_set.specs.Views.{PolicyView}
+use Rattle.policy_set.specs.declared.kind.PolicyKind.TheVariants.{Filter}
+use Rattle.policy_set.specs.Views.{PolicyView, built_in}
 use Rattle.policy_set.specs.Names.{policy_of}
 use Rattle.pcc_words.specs.Invocations.{named, from_file, Invocation, asm, prove, check, run, ref, demo, upgrade, host, bpf, command_of}
 use Rattle.pcc_lines.specs.Fixed.{bpf_too_long_line, container_too_long_line, source_too_long_line, unknown_policy_line}
-use Rattle.pcc_gate.specs.Accepted.{IsAccepted}
 use Rattle.pcc_stages.specs.Exits.{Exit}
 use Rattle.pcc_stages.specs.Requests.{usage_exit}
-use Rattle.pcc_stages.specs.Runs.{AreOctets, NoneFailed, Prints}
+use Rattle.pcc_stages.specs.Runs.{AreOctets, Happens, NoneFailed, Prints}
 use Rattle.pcc_stages.specs.Stages.Common.{refused}
 use Rattle.pcc_stages.specs.Texts.{texts}
 use Rattle.pcc_stages.specs.declared.files.TheConstants.{MAX_FILE}
-use Rattle.pcc_commands.specs.Stages.Assembling.{assembled_in}
-use Rattle.pcc_commands.specs.Stages.Proving.{proved_in}
 use Rattle.pcc_commands.specs.declared.stages.TheConstants.{MAX_PROGRAM_FILE}
-use Rattle.pcc_cli.specs.Headline.{Verdict, IsFirstVerdict, ToldOf, StopsAt, Checks, ChecksFrom, RunsCode, Refs, Demonstrates, Makes, AssemblesTo, IsUnproved, ProvesExactly, UpgradesTo, IsNoUpgrade, CompilesTo, CompilesExactly, IsNoProgram, Hosts}
+use Rattle.pcc_cli.specs.Headline.{Verdict, IsFirstVerdict, ToldOf, Checks, ChecksFrom, RunsCode, Refs, Demonstrates, Makes, AssemblesTo, IsNoSource, IsUnproved, Proves, ProvesExactly, IsUnprovedExactly, UpgradesTo, IsNoUpgrade, CompilesTo, CompilesExactly, IsNoProgram, Hosts}
 
 -- ---- the one shape
 
@@ -61,6 +60,11 @@ RunKeeps log state words files out status Clause =
     Clause (map string_bytes words) (log files.entry.now) (log files.exit.now)
     (state out.entry.now) (state out.exit.now) status
 
+-- The log tells what became of the files: what was added to it took them from the one state to the
+-- other.
+abbrev pub LogTells : List Event → List Event → FilesState → FilesState → Type 0
+LogTells e e' f g = (events : List Event) → e' ≡ e ++ events → Happens events f g
+
 -- ---- the clauses
 
 -- a run of these words, from a log e and an output s to e' and t, which ended with the status
@@ -86,13 +90,13 @@ module _ (words : List (List ℕ)) (e e' : List Event) (s t : SinkState) (status
       (policy input output : List ℕ) (version : ℕ) (bound : Option ℕ) →
       Does (asm policy input output version bound)
       (Under (policy_of policy) (λ under. Makes input output MAX_SOURCE (AssemblesTo version bound under)
-      (ToldOf (StopsAt (assembled_in version bound under)) input source_too_long_line)))
+      (ToldOf (IsNoSource version bound) input source_too_long_line)))
 
   -- `prove POLICY IN OUT`
   abbrev pub DoesProve : Type 0
   DoesProve =
       (policy input output : List ℕ) → Does (prove policy input output)
-      (Under (policy_of policy) (λ under. Makes input output MAX_FILE (λ bytes out. IsAccepted under out)
+      (Under (policy_of policy) (λ under. Makes input output MAX_FILE (Proves under)
       (ToldOf IsUnproved input container_too_long_line)))
 
   -- the same, exactly: which containers it proves, and how
@@ -100,11 +104,17 @@ module _ (words : List (List ℕ)) (e e' : List Event) (s t : SinkState) (status
   DoesProveExactly =
       (policy input output : List ℕ) → Does (prove policy input output)
       (Under (policy_of policy) (λ under. Makes input output MAX_FILE (ProvesExactly under)
-      (ToldOf (StopsAt (proved_in under)) input container_too_long_line)))
+      (ToldOf (IsUnprovedExactly under) input container_too_long_line)))
 
   -- `demo N`
   abbrev pub DoesDemo : Type 0
-  DoesDemo = (n : ℕ) → Does (demo n) (Demonstrates n)
+  DoesDemo = (n : ℕ) → Does (demo n) (Demonstrates (Proves (built_in Filter)) IsUnproved n)
+
+  -- the same, exactly: by which containers `prove` proves, and how
+  abbrev pub DoesDemoExactly : Type 0
+  DoesDemoExactly =
+      (n : ℕ) → Does (demo n)
+      (Demonstrates (ProvesExactly (built_in Filter)) (IsUnprovedExactly (built_in Filter)) n)
 
   -- `upgrade IN OUT`
   abbrev pub DoesUpgrade : Type 0

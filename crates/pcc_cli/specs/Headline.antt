@@ -1,6 +1,6 @@
 -- What each command does, whatever the files hold: what it reads and writes, and what it prints by
 -- what it read; and what accepted code is worth.
-use Rattle.std.specs.Prelude.{◌≡◌, ℕ, suc, Bool, ◌*◌, ◌<◌, ◌≤◌, ◌↔◌, ◌⊎◌, List, [], ◌∷◌, ◌++◌, length, Option, None, Some, Result, Ok, Err}
+use Rattle.std.specs.Prelude.{◌≡◌, ℕ, suc, Bool, ◌*◌, ◌<◌, ◌≤◌, ◌↔◌, ◌⊎◌, List, [], ◌∷◌, ◌++◌, length, Option, None, Some, is_some, Result, Ok, Err}
 use Rattle.file_port.specs.Events.{Given, whole, missing, too_long, failed, no_memory, Event, was_read, was_written}
 use Rattle.file_port.specs.declared.port.Put.{Put}
 use Rattle.alpha_words.specs.declared.insn.Insn.{Insn}
@@ -27,7 +27,24 @@ use Rattle.vcgen.specs.Safety.{IsGoodEnd, IsReturn}
 use Rattle.pcc_gate.specs.declared.refusal.Refusal.{Refusal}
 use Rattle.pcc_gate.specs.Accepted.{IsAccepted}
 use Rattle.pcc_gate.specs.WrittenOut.{IsAcceptedWrittenOut}
-use Rattle.pcc_gate.specs.Refusals.{IsFirstRefusal}
+use Rattle.pcc_gate.specs.Passing.{Passes}
+use Rattle.pcc_gate.specs.Refusals.{HasCode, IsFirstRefusal, IsLemmaRefusal}
+use Rattle.pcc_gate.specs.Answers.{HasGoodLemmas}
+use Rattle.proof_container.specs.Contents.{Contents}
+use Rattle.proof_container.specs.Encoding.{EncodesContents, encoding_of}
+use Rattle.proof_container.specs.Versions.{profile_of}
+use Rattle.term_table.specs.Tree.{Tree}
+use Rattle.asm_text.specs.declared.fault.LineFlaw.{LineFlaw}
+use Rattle.asm_text.specs.Names.{line_flaw_name}
+use Rattle.asm_text.specs.Sources.{Source, SpellsSource}
+use Rattle.asm_text.specs.Faults.{IsSourceFault}
+use Rattle.pcc_asm.specs.declared.fault.AsmFlaw.{AsmFlaw}
+use Rattle.pcc_asm.specs.Names.{asm_flaw_line, asm_flaw_name}
+use Rattle.pcc_asm.specs.Words.{code_bytes}
+use Rattle.pcc_asm.specs.Assembling.{Assembles}
+use Rattle.pcc_asm.specs.Faults.{IsAsmFault}
+use Rattle.pcc_demo.specs.Sources.{demo_source}
+use Rattle.pcc_lines.specs.Demo.{demo_lines}
 use Rattle.bpf_words.specs.declared.insn.TheConstants.{LOADABLE}
 use Rattle.bpf_words.specs.declared.insn.Bpf.{Bpf}
 use Rattle.bpf_words.specs.declared.fault.BpfFlaw.{BpfFlaw}
@@ -36,9 +53,10 @@ use Rattle.bpf_words.specs.Programs.{IsProgram}
 use Rattle.bpf_words.specs.Reading.{HasInsns}
 use Rattle.bpf_words.specs.Values.{bpf_value}
 use Rattle.bpf_code.specs.Blocks.{nonzero_flag}
-use Rattle.bpf_compile.specs.Compilation.{compiled_container}
+use Rattle.bpf_compile.specs.Compilation.{bare_contents}
 use Rattle.bounds_prover.specs.declared.fault.ProveFlaw.{ProveFlaw}
-use Rattle.bounds_prover.specs.Proving.{proved_container}
+use Rattle.bounds_prover.specs.Proving.{with_proof, proved_contents}
+use Rattle.prover_conditions.specs.Conditions.{condition_parts}
 use Rattle.gate_upgrade.specs.declared.fault.UpgradeFlaw.{UpgradeFlaw}
 use Rattle.gate_upgrade.specs.Upgrades.{IsUpgrade}
 use Rattle.gate_upgrade.specs.UpgradeTests.{IsUpgradeFlaw}
@@ -59,21 +77,18 @@ use Rattle.pcc_lines.specs.Named.{missing_line, read_fault_line}
 use Rattle.pcc_lines.specs.PacketFaults.{packet_fault_line}
 use Rattle.pcc_lines.specs.Refusals.{refusal_line}
 use Rattle.pcc_lines.specs.Results.{result_lines}
-use Rattle.pcc_lines.specs.Sources.{written_line}
+use Rattle.pcc_lines.specs.Sources.{source_fault_line, written_line}
 use Rattle.pcc_stages.specs.Exits.{Exit}
 use Rattle.pcc_stages.specs.Requests.{missing_exit, read_fault_exit, no_memory_exit}
 use Rattle.pcc_stages.specs.Runs.{done_exit, written_exit}
-use Rattle.pcc_stages.specs.Stage.{Stage, stops, gives}
 use Rattle.pcc_stages.specs.Texts.{texts}
-use Rattle.pcc_stages.specs.Stages.Common.{refused, printing}
-use Rattle.pcc_stages.specs.Stages.Containers.{code_in}
+use Rattle.pcc_stages.specs.Stages.Common.{refused}
 use Rattle.pcc_stages.specs.Stages.Policies.{no_policy_spelled}
 use Rattle.pcc_stages.specs.declared.files.TheConstants.{MAX_FILE, MAX_POLICY_FILE}
-use Rattle.pcc_commands.specs.Stages.Assembling.{assembled_in}
 use Rattle.pcc_commands.specs.Stages.Hosting.{Member, told_of}
 use Rattle.pcc_commands.specs.Stages.Proving.{no_container as unproved_exit}
 use Rattle.pcc_commands.specs.Stages.Upgrading.{not_upgraded}
-use Rattle.pcc_commands.specs.Commands.Demo.{demo_command}
+use Rattle.pcc_commands.specs.Commands.Demo.{summary_of}
 use Rattle.pcc_commands.specs.Commands.Host.{turn_lines}
 
 -- ---- what is printed of what a read gave
@@ -151,10 +166,6 @@ pub data ChecksFrom (Judges : Verdict) (name file : List ℕ) (events : List Eve
       → events ≡ was_read name MAX_POLICY_FILE (whole text) ∷ was_read file MAX_FILE given ∷ []
       → IsJudged Judges policy file given exit → ChecksFrom Judges name file events exit
 
--- what is printed of bytes of which the stage makes nothing
-abbrev pub StopsAt : {A : Type 0} → (List ℕ → Stage A) → List ℕ → Exit → Type 0
-StopsAt stage bytes exit = stage bytes ≡ stops exit
-
 -- `run`: one read, of FILE, which is not accepted, and what `check` prints of it, which isn't done;
 -- or it is accepted, PACKETS is read behind it, and the lines are those of the machine that tests
 -- every access, of the code that was accepted.
@@ -168,25 +179,27 @@ pub data RunsCode (Judges : Verdict) (policy : PolicyView) (file packets : List 
       → IsRunBy policy a.code steps packets given exit
       → RunsCode Judges policy file packets steps events exit
 
--- `ref`: one read, of FILE, and the exit that tells why there is no code for the policy in what it
--- gave; or PACKETS is read behind it, and the lines are those of the machine that tests every
--- access, of the code in the bytes, which of accepted ones is what was accepted.
+-- The bytes have no code for the policy, and this is printed: the line of the first clause that
+-- fails.
+pub record IsWithoutCode (policy : PolicyView) (bytes : List ℕ) (exit : Exit) : Type 0 where
+  pub refusal : Refusal
+  pub first : IsFirstRefusal policy bytes refusal
+  pub told : exit ≡ refused (refusal_line refusal)
+  pub none : (contents : Contents) (code : List Insn) → HasCode policy bytes contents code → ⊥
+
+-- `ref`: one read, of FILE, which has no code for the policy; or PACKETS is read behind it, and the
+-- lines are those of the machine that tests every access, of the code that the bytes have, which of
+-- accepted ones is what was accepted.
 pub data Refs (policy : PolicyView) (file packets : List ℕ) (steps : ℕ) (events : List Event)
     (exit : Exit) : Type 0 where
   no_code : (given : Given) → events ≡ was_read file MAX_FILE given ∷ []
-      → ToldOf (StopsAt (code_in policy)) file container_too_long_line given exit
+      → ToldOf (IsWithoutCode policy) file container_too_long_line given exit
       → Refs policy file packets steps events exit
-  ran : (bytes : List ℕ) (code : List Insn) (given : Given)
+  ran : (bytes : List ℕ) (contents : Contents) (code : List Insn) (given : Given)
       → events ≡ was_read file MAX_FILE (whole bytes) ∷ was_read packets MAX_FILE given ∷ []
-      → code_in policy bytes ≡ gives code → IsRunBy policy code steps packets given exit
+      → HasCode policy bytes contents code → IsRunBy policy code steps packets given exit
       → ((a : IsAccepted policy bytes) → code ≡ a.code)
       → Refs policy file packets steps events exit
-
--- `demo`: no file is read or written, and the lines are those of its runs, or the one at which its definition stops.
-pub data Demonstrates (n : ℕ) (events : List Event) (exit : Exit) : Type 0 where
-  demonstrated : (text : List ℕ) → events ≡ [] → demo_command n ≡ printing text → exit ≡ done_exit text
-      → Demonstrates n events exit
-  not_demonstrated : events ≡ [] → demo_command n ≡ stops exit → Demonstrates n events exit
 
 -- A command that makes a file of another: one read, of IN, and the exit that tells why nothing is made of what it gave; or then one
 -- write to OUT, of what is made of the bytes.
@@ -195,18 +208,91 @@ pub data Makes (input output : List ℕ) (max : ℕ) (IsMade : List ℕ → List
   made : (bytes out : List ℕ) (answer : Put) → events ≡ was_read input max (whole bytes) ∷ was_written output out answer ∷ []
       → IsMade bytes out → exit ≡ written_exit texts output (written_line (length out)) answer → Makes input output max IsMade IsTold events exit
 
--- `asm` makes of a source the container of the version and the bound that it is assembled into
-abbrev pub AssemblesTo : ℕ → Option ℕ → PolicyView → List ℕ → List ℕ → Type 0
-AssemblesTo version bound policy text out = assembled_in version bound policy text ≡ gives out
+-- `asm` makes of a text the container of the source that it spells, in this version and with this
+-- bound: the encoding of contents that are the source's, and whose words are those that are written
+-- for its instructions, since many words are a `ret`.
+pub record AssemblesTo (version : ℕ) (bound : Option ℕ) (policy : PolicyView) (text out : List ℕ)
+    : Type 0 where
+  pub source : Source
+  pub contents : Contents
+  pub spelled : SpellsSource (profile_of version) (is_some bound) text source
+  pub assembled : Assembles version bound policy source contents
+  pub written : contents.code ≡ code_bytes assembled.insns
+  pub encoded : out ≡ encoding_of contents
+
+-- the line that is wrong of a source, and why
+abbrev pub source_exit : ℕ → List ℕ → Exit
+source_exit line flaw = refused (source_fault_line line flaw)
+
+-- `asm` makes nothing of a text, and prints why: it spells no source, or what it spells can't be
+-- code
+pub data IsNoSource (version : ℕ) (bound : Option ℕ) (text : List ℕ) (exit : Exit) : Type 0 where
+  not_spelled : (line : ℕ) (flaw : LineFlaw)
+      → IsSourceFault (profile_of version) (is_some bound) text line flaw
+      → exit ≡ source_exit line (line_flaw_name flaw) → IsNoSource version bound text exit
+  not_assembled : (source : Source) (flaw : AsmFlaw)
+      → SpellsSource (profile_of version) (is_some bound) text source
+      → IsAsmFault (profile_of version) source flaw
+      → exit ≡ source_exit (asm_flaw_line flaw) (asm_flaw_name flaw)
+      → IsNoSource version bound text exit
 
 -- `prove` makes nothing of bytes that have a flaw, and prints one
 abbrev pub IsUnproved : List ℕ → Exit → Type 0
 IsUnproved bytes exit = (flaw : ProveFlaw) × (exit ≡ unproved_exit flaw)
 
+-- `prove` makes of a container one that is accepted, of the same contents but for the proof
+pub record Proves (policy : PolicyView) (bytes out : List ℕ) : Type 0 where
+  pub contents : Contents
+  pub proof : Tree
+  pub given : EncodesContents bytes contents
+  pub made : out ≡ encoding_of (with_proof contents proof)
+  pub accepted : IsAccepted policy out
+
+-- Of bytes that pass the checks before the proof, and of their lemmas alone 10 and 14, the class
+-- makes this by the parts of their condition.
+pub record ClassMakes (policy : PolicyView) (bytes : List ℕ) (made : Result (List ℕ) ProveFlaw)
+    : Type 0 where
+  pub contents : Contents
+  pub code : List Insn
+  pub marks : List Bool
+  pub passes : Passes policy bytes contents code marks
+  pub lemmas : HasGoodLemmas contents
+  pub parts : proved_contents contents (condition_parts policy contents.bound code contents.invs)
+      ≡ made
+
 -- what `prove` makes is accepted, and it is what the class of proofs that it searches has
 pub record ProvesExactly (policy : PolicyView) (bytes out : List ℕ) : Type 0 where
-  pub proved : proved_container policy bytes ≡ Ok out
-  pub accepted : IsAccepted policy out
+  pub proves : Proves policy bytes out
+  pub exactly : ClassMakes policy bytes (Ok out)
+
+-- `prove` makes nothing, exactly: the first check that fails, or the class makes nothing
+pub data IsUnprovedExactly (policy : PolicyView) (bytes : List ℕ) (exit : Exit) : Type 0 where
+  not_checked : (r : Refusal) → IsLemmaRefusal policy bytes r → exit ≡ refused (refusal_line r)
+      → IsUnprovedExactly policy bytes exit
+  not_in_class : (flaw : ProveFlaw) → ClassMakes policy bytes (Err flaw)
+      → exit ≡ unproved_exit flaw → IsUnprovedExactly policy bytes exit
+
+-- The source of `demo` is assembled for `filter`, what `prove` makes of it is accepted, and the
+-- lines tell of the accepted code and of its runs.
+pub record IsDemo (IsProved : List ℕ → List ℕ → Type 0) (n : ℕ) (exit : Exit) : Type 0 where
+  pub bare : List ℕ
+  pub out : List ℕ
+  pub assembled : AssemblesTo 1 None (built_in Filter) (demo_source n) bare
+  pub proved : IsProved bare out
+  pub accepted : IsAccepted (built_in Filter) out
+  pub lines : exit ≡ done_exit (demo_lines (summary_of (built_in Filter) n
+      (record { code = accepted.code; invariants = length accepted.contents.invs })))
+
+-- `demo`: no file is read or written, and the lines are printed, or why nothing is assembled or
+-- proved, by what `prove` makes and tells.
+pub data Demonstrates (IsProved : List ℕ → List ℕ → Type 0) (IsTold : List ℕ → Exit → Type 0)
+    (n : ℕ) (events : List Event) (exit : Exit) : Type 0 where
+  demonstrated : events ≡ [] → IsDemo IsProved n exit → Demonstrates IsProved IsTold n events exit
+  not_assembled : events ≡ [] → IsNoSource 1 None (demo_source n) exit
+      → Demonstrates IsProved IsTold n events exit
+  not_proved : (bare : List ℕ) → events ≡ []
+      → AssemblesTo 1 None (built_in Filter) (demo_source n) bare → IsTold bare exit
+      → Demonstrates IsProved IsTold n events exit
 
 -- `upgrade` makes of a container of version 1 one of version 2, of the same code, invariants and
 -- proof, that is accepted under each policy under which the first is
@@ -243,7 +329,8 @@ pub record CompilesTo (bytes out : List ℕ) : Type 0 where
 -- it is the container that `prove` makes of the program's code and invariants
 pub record CompilesExactly (bytes out : List ℕ) : Type 0 where
   pub compiles : CompilesTo bytes out
-  pub compiled : compiled_container compiles.program ≡ Ok out
+  pub compiled :
+      ClassMakes (built_in Filter) (encoding_of (bare_contents compiles.program)) (Ok out)
 
 -- `bpf` makes nothing of bytes that are no program, and prints the first flaw
 abbrev pub IsNoProgram : List ℕ → Exit → Type 0

@@ -4,6 +4,8 @@ use Rattle.std.specs.Prelude.{◌≡◌, ℕ, List, ◌++◌, Option, None, Some
 use Rattle.file_port.specs.Events.{Event}
 use Rattle.file_port.specs.Sink.{SinkState}
 use Rattle.asm_text.specs.declared.limits.TheConstants.{MAX_SOURCE}
+use Rattle.policy_set.specs.declared.kind.PolicyKind.TheVariants.{Filter}
+use Rattle.policy_set.specs.Views.{built_in}
 use Rattle.policy_set.specs.Names.{policy_of}
 use Rattle.pcc_words.specs.Invocations.{named, from_file, Invocation, asm, prove, check, run, ref, demo, upgrade, host, bpf}
 use Rattle.pcc_lines.specs.Fixed.{bpf_too_long_line, container_too_long_line, source_too_long_line}
@@ -12,22 +14,20 @@ use Rattle.pcc_stages.specs.Runs.{Effect, NoneFailed, Prints}
 use Rattle.pcc_stages.specs.Stage.{Stage, Follows}
 use Rattle.pcc_stages.specs.Texts.{texts}
 use Rattle.pcc_stages.specs.declared.files.TheConstants.{MAX_FILE}
-use Rattle.pcc_commands.specs.Stages.Assembling.{assembled_in}
-use Rattle.pcc_commands.specs.Stages.Proving.{proved_in}
 use Rattle.pcc_commands.specs.Tasks.{stage_of}
 use Rattle.pcc_commands.specs.declared.stages.TheConstants.{MAX_PROGRAM_FILE}
-use Rattle.pcc_cli.specs.Headline.{IsVerdict, IsFirstVerdict, ToldOf, StopsAt, Checks, ChecksFrom, RunsCode, Refs, Demonstrates, Makes, AssemblesTo, ProvesExactly, UpgradesTo, IsNoUpgrade, CompilesExactly, IsNoProgram, Hosts}
+use Rattle.pcc_cli.specs.Headline.{IsVerdict, IsFirstVerdict, ToldOf, Checks, ChecksFrom, RunsCode, Refs, Demonstrates, Makes, AssemblesTo, IsNoSource, ProvesExactly, IsUnprovedExactly, UpgradesTo, IsNoUpgrade, CompilesExactly, IsNoProgram, Hosts}
 use Rattle.pcc_cli.specs.Clauses.{Under, DoesNothing, DoesCheck, DoesCheckFrom, DoesRun, DoesRefuse, DoesRef, DoesAsm}
-use Rattle.pcc_cli.specs.Clauses.{DoesProve, DoesProveExactly, DoesDemo, DoesUpgrade, DoesHost, DoesCompile, DoesCompileExactly}
+use Rattle.pcc_cli.specs.Clauses.{DoesProve, DoesProveExactly, DoesDemo, DoesDemoExactly, DoesUpgrade, DoesHost, DoesCompile, DoesCompileExactly}
 
 -- what a command may do that comes to an exit
 abbrev pub MayDo : Invocation → List Event → Exit → Type 0
 MayDo (asm policy input output version bound) =
     Under (policy_of policy) (λ under. Makes input output MAX_SOURCE (AssemblesTo version bound under)
-    (ToldOf (StopsAt (assembled_in version bound under)) input source_too_long_line))
+    (ToldOf (IsNoSource version bound) input source_too_long_line))
 MayDo (prove policy input output) =
     Under (policy_of policy) (λ under. Makes input output MAX_FILE (ProvesExactly under)
-    (ToldOf (StopsAt (proved_in under)) input container_too_long_line))
+    (ToldOf (IsUnprovedExactly under) input container_too_long_line))
 MayDo (check (named policy) file) =
     Under (policy_of policy) (λ under. Checks IsFirstVerdict under file)
 MayDo (check (from_file name) file) = ChecksFrom IsFirstVerdict name file
@@ -35,7 +35,8 @@ MayDo (run policy file packets steps) =
     Under (policy_of policy) (λ under. RunsCode IsFirstVerdict under file packets steps)
 MayDo (ref policy file packets steps) =
     Under (policy_of policy) (λ under. Refs under file packets steps)
-MayDo (demo n) = Demonstrates n
+MayDo (demo n) =
+    Demonstrates (ProvesExactly (built_in Filter)) (IsUnprovedExactly (built_in Filter)) n
 MayDo (upgrade input output) =
     Makes input output MAX_FILE UpgradesTo (ToldOf IsNoUpgrade input container_too_long_line)
 MayDo (host script) = Hosts script
@@ -72,6 +73,7 @@ pub record KeepsClauses (words : List (List ℕ)) (e e' : List Event) (s t : Sin
   pub proves : DoesProve words e e' s t status
   pub proves_exactly : DoesProveExactly words e e' s t status
   pub demonstrates : DoesDemo words e e' s t status
+  pub demonstrates_exactly : DoesDemoExactly words e e' s t status
   pub upgrades : DoesUpgrade words e e' s t status
   pub hosts : DoesHost words e e' s t status
   pub compiles : DoesCompile words e e' s t status

@@ -11,8 +11,8 @@ ghost use Rattle.pcc_stages.specs.Texts.{texts};
 ghost use Rattle.pcc_stages.specs.Decisions.{Decides, exit_of};
 ghost use Rattle.pcc_commands.specs.Tasks.{task_of, request_of};
 ghost use Rattle.pcc_gate.specs.Safe.{AcceptedSafe};
-ghost use Rattle.pcc_cli.specs.Clauses.{RunKeeps, DoesCheck, DoesCheckFrom, DoesRun, DoesRefuse};
-ghost use Rattle.pcc_cli.specs.Clauses.{DoesRef, DoesAsm, DoesProve, DoesProveExactly, DoesDemo};
+ghost use Rattle.pcc_cli.specs.Clauses.{LogTells, RunKeeps, DoesCheck, DoesCheckFrom, DoesRun, DoesRefuse};
+ghost use Rattle.pcc_cli.specs.Clauses.{DoesRef, DoesAsm, DoesProve, DoesProveExactly, DoesDemo, DoesDemoExactly};
 ghost use Rattle.pcc_cli.specs.Clauses.{DoesUpgrade, DoesHost, DoesCompile, DoesCompileExactly, DoesNothing};
 ghost use Rattle.pcc_words.specs.Invocations.{command_of};
 ghost use Rattle.pcc_cli.specs.Means.{KeepsClauses, MeansIfCommand};
@@ -71,13 +71,16 @@ fn print<S: Sink>(decision: Result<Report, Stop<'_>>, out: &mut S) -> u8
 ///
 /// Reads and refuses first, and prints then; nothing is printed before all files are read.
 ///
-/// By `runs`, whatever the files hold, the log of the files grows by the reads and the write that
-/// the command asks for, in their order, and by no other event. The text on the output, and the
-/// status, are a function of what these reads gave.
+/// By `happens`, the log of the files tells what became of them. Each command has a clause, which
+/// says by what reads and what write the log grew, and what was printed. In each, memory may run
+/// out behind the first of the reads that the command makes; then nothing is written or printed. If
+/// the arguments are no command, nothing is read, and the usage line is printed (`no_command`).
 ///
-/// Each command has a clause, which says what its users want to know. In each, memory may run out
-/// behind the first of the reads that the command makes; then nothing is written or printed. If the
-/// arguments are no command, nothing is read, and the usage line is printed (`no_command`).
+/// These clauses together say all: by `laws`, `runs`, the log grew by the reads and the write that
+/// the command's definition asks for, in their order, and by no other event, and text and status
+/// are a function of what these reads gave. By `ends` and `accounts` of `laws` follows how the run
+/// ended, also over files whose contents are known, and what its status and the counts of faults
+/// tell.
 ///
 /// By `checks`, `check` reads FILE once. It prints `accepted` exactly if the bytes read are
 /// accepted under the policy, which is so exactly if they are with every lemma inlined; else it
@@ -87,13 +90,14 @@ fn print<S: Sink>(decision: Result<Report, Stop<'_>>, out: &mut S) -> u8
 /// By `runs_code`, `run` runs the code that was accepted from the bytes read, and no other, and
 /// prints the lines of the machine that tests each access. By `refers`, `ref` prints them for the
 /// code in FILE. What `asm` writes is the source's container (`assembles`). What `prove` writes is
-/// accepted (`proves`); `proves_exactly` says which containers it proves. What `upgrade` writes is
-/// accepted under each policy under which the container that it reads is accepted (`upgrades`). By
-/// `compiles`, what `bpf` writes is accepted, and its runs on a packet return 0 if the program's
-/// value is 0, else 1; if IN isn't a program, `bpf` prints the first thing that is wrong with it.
-/// `compiles_exactly` says which container it writes. By `demonstrates`, `demo` uses no file. By
-/// `hosts`, `host` prints for each turn the result that its agent has alone, with its own budgets,
-/// whatever the other agents do.
+/// accepted, and is its input but for the proof (`proves`); `proves_exactly` says which containers
+/// it proves. What `upgrade` writes is accepted under each policy under which the container that it
+/// reads is accepted (`upgrades`). By `compiles`, what `bpf` writes is accepted, and its runs on a
+/// packet return 0 if the program's value is 0, else 1; if IN isn't a program, `bpf` prints the
+/// first thing that is wrong with it. `compiles_exactly` says which container it writes. By
+/// `demonstrates`, `demo` uses no file, and tells of accepted code of its source; by
+/// `demonstrates_exactly`, exactly if `prove` proves it. By `hosts`, `host` prints for each turn the
+/// result that its agent has alone, with its own budgets, whatever the other agents do.
 ///
 /// By `sound`, for every policy, also from a file, no run of accepted code from a state that
 /// satisfies the precondition is blocked, and what it returns satisfies the postcondition. By
@@ -103,15 +107,9 @@ fn print<S: Sink>(decision: Result<Report, Stop<'_>>, out: &mut S) -> u8
 /// it runs safely too: so no agent changes or learns anything of another's. By `returns`, if
 /// accepted bytes bound their steps, no packet of `run` is out of steps with at least as many for
 /// each, and an agent of a host returns within the bound.
-///
-/// By `ends`, if the contents of the files are known, a run ends with the answer over them, or as a
-/// failed call or running out of memory requires; if they aren't known, less is known. By
-/// `accounts`, the exit status and the counts of faults say what `Accounts` lists, so that each
-/// status has its cause.
 pub fn pcc<F: Files, S: Sink>(alloc: Global, words: Vec<String>, files: &mut F, out: &mut S) -> u8
-    ensures runs { Runs texts (task_of (map string_bytes words.items)).stage
-        (F.log files.old) (F.log files.new) (F.state files.old) (F.state files.new)
-        (S.state out.old) (S.state out.new) result }
+    ensures happens { LogTells (F.log files.old) (F.log files.new)
+        (F.state files.old) (F.state files.new) }
     ensures checks { RunKeeps F.log S.state words.items files out result (DoesCheck IsVerdict) }
     ensures checks_from { RunKeeps F.log S.state words.items files out result
         (DoesCheckFrom IsVerdict) }
@@ -122,16 +120,14 @@ pub fn pcc<F: Files, S: Sink>(alloc: Global, words: Vec<String>, files: &mut F, 
     ensures proves { RunKeeps F.log S.state words.items files out result DoesProve }
     ensures proves_exactly { RunKeeps F.log S.state words.items files out result DoesProveExactly }
     ensures demonstrates { RunKeeps F.log S.state words.items files out result DoesDemo }
+    ensures demonstrates_exactly { RunKeeps F.log S.state words.items files out result
+        DoesDemoExactly }
     ensures upgrades { RunKeeps F.log S.state words.items files out result DoesUpgrade }
     ensures hosts { RunKeeps F.log S.state words.items files out result DoesHost }
     ensures compiles { RunKeeps F.log S.state words.items files out result DoesCompile }
     ensures compiles_exactly { RunKeeps F.log S.state words.items files out result
         DoesCompileExactly }
     ensures no_command { RunKeeps F.log S.state words.items files out result DoesNothing }
-    ensures ends { Ends (request_of (map string_bytes words.items))
-        (F.state files.old) (F.state files.new) (S.state out.old) (S.state out.new) result }
-    ensures accounts { Accounts (request_of (map string_bytes words.items))
-        (F.state files.old) (F.state files.new) (S.state out.old) (S.state out.new) result }
     ensures sound { AcceptedSafe }
     ensures safe { AcceptedRunsSafely }
     ensures apart { AgentsStayInParts }
@@ -148,9 +144,9 @@ pub fn pcc<F: Files, S: Sink>(alloc: Global, words: Vec<String>, files: &mut F, 
 /// or running out of memory requires; if they aren't known, less is known (`Ends`). Its exit status
 /// and the counts of faults say what `Accounts` lists.
 ///
-/// By `keeps`, it keeps the clause of each command. By `means`, a run that keeps these clauses
-/// means what `specs/Means` says: also if memory ran out, its reads are those that the command's
-/// definition asks for.
+/// By `keeps`, it keeps the clause of each command. By `runs`, a run that keeps these clauses, and
+/// whose log tells what became of the files, runs as a command asks for. By `means`, it means what
+/// `specs/Means` says.
 pub fn laws()
     ensures ends { (args : List (List ℕ)) (e e' : List Event) (f g : FilesState) (s t : SinkState)
         (status : ℕ) → Runs texts (task_of args).stage e e' f g s t status
@@ -161,6 +157,9 @@ pub fn laws()
     ensures keeps { (words : List (List ℕ)) (e e' : List Event) (f g : FilesState) (s t : SinkState)
         (status : ℕ) → Runs texts (task_of words).stage e e' f g s t status
         → KeepsClauses words e e' s t status }
+    ensures runs { (words : List (List ℕ)) (e e' : List Event) (f g : FilesState) (s t : SinkState)
+        (status : ℕ) → KeepsClauses words e e' s t status → LogTells e e' f g
+        → Runs texts (task_of words).stage e e' f g s t status }
     ensures means { (words : List (List ℕ)) (e e' : List Event) (s t : SinkState) (status : ℕ)
         → KeepsClauses words e e' s t status
         → MeansIfCommand (command_of words) e e' s t status }
@@ -174,6 +173,8 @@ pub fn laws()
     bpf_words::laws();
     bpf_compile::laws();
     gate_upgrade::laws();
+    asm_text::laws();
+    pcc_asm::laws();
 }
 
 /// States what accepted code is worth, for `pcc` or another program: what `sound`, `safe`, `apart`

@@ -5,6 +5,7 @@ use Rattle.pcc_stages.proofs.DecisionLemmas.{runs_of_decision}
 use Rattle.pcc_commands.specs.Tasks.{task_of}
 use Rattle.pcc_commands.specs.Reports.{report_exit}
 use Rattle.pcc_cli.specs.Means.{KeepsClauses}
+use Rattle.pcc_cli.proofs.RunsLemmas.{log_tells}
 use Rattle.pcc_cli.proofs.top_call.pcc.Goals as goal
 
 pub returns : goal.returns
@@ -22,7 +23,7 @@ returns g c =
     let all : KeepsClauses words log logged out put c.print.result =
     c.laws.ensures.keeps words _ _ _ _ _ _ c.print.result runs in
     record {
-      runs = runs;
+      happens = log_tells _ _ _ _ _ _ _ c.print.result runs;
       checks = all.checks;
       checks_from = all.checks_from;
       runs_code = all.runs_code;
@@ -32,13 +33,12 @@ returns g c =
       proves = all.proves;
       proves_exactly = all.proves_exactly;
       demonstrates = all.demonstrates;
+      demonstrates_exactly = all.demonstrates_exactly;
       upgrades = all.upgrades;
       hosts = all.hosts;
       compiles = all.compiles;
       compiles_exactly = all.compiles_exactly;
       no_command = all.no_command;
-      ends = c.laws.ensures.ends words _ _ _ _ _ _ c.print.result runs;
-      accounts = c.laws.ensures.accounts words _ _ _ _ _ _ c.print.result runs;
       sound = c.accepted_laws.ensures.sound;
       safe = c.accepted_laws.ensures.safe;
       apart = c.accepted_laws.ensures.apart;
