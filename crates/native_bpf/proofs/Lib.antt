@@ -1,0 +1,4 @@
+pub mod Keeping
+pub mod Unmetered
+pub mod Answering
+pub mod Compiled
