@@ -37,7 +37,7 @@ int main(int argc, char **argv) {
     }
     for (int k = 0; (length = next_packet(file)) >= 0; k++) {
         uint64_t scratch[2] = {0, 0}, area[PCC_AREA];
-        struct pcc_end end;
+        struct pcc_answer end;
         if (length < LEAST) {
             printf("%d: short\n", k);
             continue;

@@ -21,14 +21,14 @@ extern "C" {
 #define PCC_AREA 31
 
 /* How a call ended: `spent` is 0 if the code returned `value`, and 1 if it ran out of fuel; `value` is then 0. */
-struct pcc_end {
+struct pcc_answer {
     uint64_t value;
     uint64_t spent;
 };
 
 /* A function that pcc_native writes. Each arrival at a loop head takes a unit of fuel; code without loops, and code with
  * a step bound, needs none. */
-typedef struct pcc_end pcc_function(uint64_t r16, uint64_t r17, uint64_t r18, uint64_t *area, uint64_t fuel);
+typedef struct pcc_answer pcc_function(uint64_t r16, uint64_t r17, uint64_t r18, uint64_t *area, uint64_t fuel);
 
 /* The function of an object file, if pcc_native was given no other name. */
 extern pcc_function pcc_code;
