@@ -13,13 +13,14 @@ find_top() { # SELF
 }
 
 # Sets `program`, `crate` and `binary` for a program. Needs `top`.
-set_program() { # pcc|pcc_view|pcc_native
+set_program() { # pcc|pcc_view|pcc_native|pcc_auto
   program=$1
   case $program in
     pcc) crate=pcc_main ;;
     pcc_view) crate=view_main ;;
     pcc_native) crate=native_main ;;
-    *) echo "$program is no program of this repository: give pcc, pcc_view or pcc_native" >&2; return 2 ;;
+    pcc_auto) crate=auto_main ;;
+    *) echo "$program is no program of this repository: give pcc, pcc_view, pcc_native or pcc_auto" >&2; return 2 ;;
   esac
   binary=$top/crates/$crate/out/$crate
 }
@@ -88,7 +89,7 @@ has_library() {
 }
 
 # Runs a program with the words given: the proved one if it is current, else the sources without proofs.
-run_program() { # SELF pcc|pcc_view|pcc_native WORD..
+run_program() { # SELF pcc|pcc_view|pcc_native|pcc_auto WORD..
   find_top "$1"
   set_program "$2" || exit
   shift 2

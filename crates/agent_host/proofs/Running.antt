@@ -15,7 +15,7 @@ use Rattle.vcgen.specs.Encoded.{AreForms, AreEncodings}
 use Rattle.vcgen.specs.Safety.{IsAnnotated, all_steps, steps_after}
 use Rattle.pcc_gate.specs.First.{formulas}
 use Rattle.pcc_gate.specs.Views.{AcceptedView, AreAnnotations, IsConditionTrue}
-use Rattle.pcc_gate.proofs.First.{formulas-encoded}
+use Rattle.pcc_gate.proofs.Conditions.{formulas-encoded}
 use Rattle.host_steps.specs.declared.ended.Ended.{Ended}
 use Rattle.host_steps.specs.declared.ended.Ended.TheVariants as ended
 use Rattle.host_steps.specs.Stepping.{arena_state, EndsUnblocked}

@@ -26,13 +26,17 @@ use Rattle.proof_container.specs.Decoding.{decoded_container}
 use Rattle.proof_container.proofs.Whole.{container_again}
 use Rattle.vcgen.specs.Encoded.{AreForms}
 use Rattle.vcgen.specs.declared.condition.TheConstants.{MAX_HEIGHT}
-use Rattle.pcc_gate.specs.Passing.{AreLow, Passes, PassesUntyped}
+use Rattle.pcc_gate.specs.Refusals.{AreLow}
+use Rattle.pcc_gate.specs.Passing.{Passes, PassesUntyped}
 use Rattle.pcc_gate.specs.Accepted.{Accepts, IsAccepted}
-use Rattle.pcc_gate.specs.First.{vc_of, lemma_refusal}
+use Rattle.pcc_gate.specs.First.{vc_of, height_found, typed_found, lemma_refusal}
 use Rattle.pcc_gate.specs.Answers.{HasGoodLemmas}
 use Rattle.pcc_gate.specs.declared.refusal.Refusal.{Refusal}
-use Rattle.pcc_gate.proofs.First.{vc_of-encodes}
-use Rattle.pcc_gate.proofs.Lemmas.{none-good}
+use Rattle.pcc_gate.proofs.Conditions.{vc_of-encodes}
+use Rattle.pcc_gate.proofs.Exactly.{none-good, passes-by, typed-none}
+use Rattle.pcc_gate.proofs.Rows.{low-unfound}
+use Rattle.pcc_gate.proofs.Refusing.{none-next}
+use Rattle.pcc_gate.proofs.ByClause.{by-clause, untyped, from-proof}
 use Rattle.pcc_gate.proofs.Safe.{bound-fits}
 use Rattle.prover_class.specs.Parts.{conjoined, condition_proof, first_not_easy}
 use Rattle.bounds_prover.specs.declared.fault.ProveFault.{ProveFault}
@@ -43,6 +47,7 @@ use Rattle.prover_conditions.specs.Conditions.{condition_parts}
 use Rattle.formula_tree.proofs.Used.{uses-more}
 use Rattle.prover_conditions.proofs.WholeProof.{IsSoundClass, condition-parts, parts-used, proof-checks}
 use Rattle.bounds_prover.specs.Proving.{with_proof, excess, encoded_unless, with_parts_proof, proved_contents, proved_code, proved_read, made_unless, proved_container, IsMadeAnswer}
+use Rattle.bounds_prover.specs.ProvedLaws.{IsProvedOf}
 use Rattle.bounds_prover.proofs.Measures.{IsSmallEnough, small-enough}
 use Rattle.bounds_prover.proofs.SmallTerms.{checks-small, checks-entry}
 use Rattle.lf_signature.specs.declared.editions.WordSignature.{WordSignature}
@@ -119,10 +124,10 @@ module _ (sound : IsSoundClass) (policy : PolicyView) (kept : IsPolicy policy) (
   Parts = condition_parts policy c.bound code c.invs
 
   wide : AreForms Longest c.bound c.invs
-  wide = forms-wider sig c.bound c.invs passes.forms
+  wide = forms-wider sig c.bound c.invs (by-clause passes).forms
 
   fits : IsBound c.bound
-  fits = bound-fits c.version c.bound passes.container.contents.bound
+  fits = bound-fits c.version c.bound passes.has.container.contents.bound
 
   -- the signature has the rule for counted steps where these are bounded
   has-rule : (v : ℕ) (bound : Option ℕ) → IsBoundOf v bound → is_some bound ≡ true
@@ -150,7 +155,7 @@ module _ (sound : IsSoundClass) (policy : PolicyView) (kept : IsPolicy policy) (
       → EncodesCode (profile_of v) c.code code → IsFor policy h
       → Uses (HasOp (declared (signature_of v))) (conjoined Parts)
   operators-used v h is forms encoded named =
-      parts-used sound policy c.bound code c.invs marks wide passes.code passes.annotated passes.cut
+      parts-used sound policy c.bound code c.invs marks wide passes.has.code passes.annotated (by-clause passes).cut
       kept fits (signature_of v) forms
       (subst (λ p. AreOfProfile p code) (sym (edition-operators v))
       (AreOfProfile-EncodesCode (profile_of v) c.code code encoded)) (policy-of v h is named)
@@ -161,14 +166,14 @@ module _ (sound : IsSoundClass) (policy : PolicyView) (kept : IsPolicy policy) (
     checks : Checks (declared sig) [] p
         (pf (form_encoding (conjoined Parts)))
     checks =
-        proof-checks sound policy c.bound code c.invs marks wide passes.code passes.annotated
-        passes.cut kept fits sig (has-rule c.version c.bound passes.container.contents.bound)
-        (operators-used c.version c.head passes.container.contents.head passes.forms passes.encoded
-        passes.named) p given low
+        proof-checks sound policy c.bound code c.invs marks wide passes.has.code passes.annotated
+        (by-clause passes).cut kept fits sig (has-rule c.version c.bound passes.has.container.contents.bound)
+        (operators-used c.version c.head passes.has.container.contents.head (by-clause passes).forms passes.has.encoded
+        (by-clause passes).named) p given low
 
     pub made-contents : length (entries (roots (with_proof c p))) ≤ MAX_ENTRIES → IsContents (with_proof c p)
     made-contents few =
-        let h = passes.container.contents in
+        let h = passes.has.container.contents in
         let small : IsSmall p = checks-small sig checks (omega (arith, low)) in
         record {
           version = h.version;
@@ -191,38 +196,36 @@ module _ (sound : IsSoundClass) (policy : PolicyView) (kept : IsPolicy policy) (
   with-lemmas h =
       let forms : List Tree = formulas_of c.lemmas in
       checks_more (declared sig) (with_lemmas (declared sig) forms)
-      (lemmas_keep (declared sig) (λ n. refl) forms passes.lemma_forms) h
+      (lemmas_keep (declared sig) (λ n. refl) forms (by-clause passes).lemma_forms) h
 
   made-accepts : HasGoodLemmas c → (p : Tree) → condition_proof (is_some c.bound) Parts ≡ Some p
       → IsSmallEnough (with_proof c p) p
       → Accepts policy (encoding_of (with_proof c p)) (with_proof c p) code marks
   made-accepts good p given s =
       let proved = checks p given s.height in
-      record {
-        passes = record {
-          size = s.bytes;
-          container = record { contents = made-contents p given s.height s.entries; encoded = refl };
-          named = passes.named;
-          encoded = passes.encoded;
-          code = passes.code;
-          heights = low_with c p passes.heights s.height;
-          forms = passes.forms;
-          lemma_forms = passes.lemma_forms;
-          annotated = passes.annotated;
-          cut = passes.cut;
-          unfolded = passes.unfolded;
-        };
+      let d : Contents = with_proof c p in
+      let kept : Passes policy (encoding_of d) d code marks =
+      passes-by policy (encoding_of d) d code marks s.bytes (by-clause passes).named
+      (record {
+        container = record { contents = made-contents p given s.height s.entries; encoded = refl };
+        encoded = passes.has.encoded;
+        code = passes.has.code;
+      }) passes.annotated
+      (none-next (height_found (roots d)) (typed_found sig d code)
+      (low-unfound (roots d) (low_with c p (by-clause passes).heights s.height))
+      (typed-none policy bytes c code marks passes)) in
+      from-proof kept (record {
         proof = p;
         vc = vc_of policy c.bound code c.invs;
         given = refl;
         weight = s.weight;
         lemmas = good.proved;
-        condition = vc_of-encodes sig policy c.bound code c.invs passes.forms;
+        condition = vc_of-encodes sig policy c.bound code c.invs (by-clause passes).forms;
         proved =
             with-lemmas
             (subst (λ F. Checks (declared sig) [] p (pf (form_encoding F)))
             (sym (condition-parts policy c.bound code c.invs)) proved);
-      }
+      })
 
 -- ---- what is made of parts
 
@@ -270,16 +273,7 @@ made-written Begun m (Err Results) h = absurd h
 -- where clauses 1 to 8 and 13 hold, 1 to 5 do
 pub passes-untyped : {policy : PolicyView} {bytes : List ℕ} {c : Contents} {code : List Insn}
     {marks : List Bool} → Passes policy bytes c code marks → PassesUntyped policy bytes
-passes-untyped {c = c} {code = code} p = record {
-  contents = c;
-  insns = code;
-  size = p.size;
-  container = p.container;
-  named = p.named;
-  encoded = p.encoded;
-  code = p.code;
-  heights = p.heights;
-}
+passes-untyped p = untyped p
 
 -- where none of the clauses tried fails, it is made of their contents
 pub contents-made : (policy : PolicyView) (bytes : List ℕ) (c : Contents) (code : List Insn)
@@ -287,9 +281,9 @@ pub contents-made : (policy : PolicyView) (bytes : List ℕ) (c : Contents) (cod
     proved_container policy bytes ≡ proved_contents c (condition_parts policy c.bound code c.invs)
 unfolding proved_container
 contents-made policy bytes c code marks passes none =
-    (λ i. made_unless (none i) (proved_read policy (container_again bytes c passes.container i)))
+    (λ i. made_unless (none i) (proved_read policy (container_again bytes c passes.has.container i)))
     ∙ ap (proved_code policy c)
-    (sym (decoded_code-ok (profile_of c.version) c.code code passes.encoded passes.code))
+    (sym (decoded_code-ok (profile_of c.version) c.code code passes.has.encoded passes.has.code))
 
 -- else it is refused
 pub refused-made : (policy : PolicyView) (bytes : List ℕ) (r : Refusal) → lemma_refusal policy bytes
@@ -323,4 +317,25 @@ made-accepted sound policy bytes out kept fits e =
           (made-accepts sound policy kept bytes h.contents h.code h.marks h.passes h.good m.proof
           m.given
           (small-enough c m.proof m.small));
+    }
+
+-- and it is the container with another proof
+pub made-same : IsSoundClass → (policy : PolicyView) (bytes out : List ℕ) → IsPolicy policy
+    → IsBytes bytes → proved_container policy bytes ≡ Ok out → IsProvedOf bytes out
+made-same sound policy bytes out kept fits e =
+    let none = none-refused policy bytes out e in
+    let h = none-good policy bytes fits none in
+    let parts = condition_parts policy h.contents.bound h.code h.contents.invs in
+    let m = made-is h.contents parts out (sym (contents-made policy bytes h.contents h.code h.marks h.passes none) ∙ e) in
+    let c = with_proof h.contents m.proof in
+    let s = small-enough c m.proof m.small in
+    record {
+      contents = h.contents;
+      proof = m.proof;
+      had = container_again bytes h.contents h.passes.has.container;
+      has = container_again out c (record {
+        contents = made-contents sound policy kept bytes h.contents h.code h.marks h.passes m.proof
+            m.given s.height s.entries;
+        encoded = m.out_is;
+      });
     }

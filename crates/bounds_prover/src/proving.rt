@@ -18,6 +18,7 @@ ghost use Rattle.pcc_gate.specs.Answers.{IsHeld, HasGoodLemmas};
 ghost use Rattle.prover_conditions.specs.Conditions.{condition_parts};
 ghost use Rattle.bounds_prover.specs.Proving.{excess, encoded_unless};
 ghost use Rattle.bounds_prover.specs.Proving.{proved_contents, IsMadeAnswer, IsProveAnswer};
+ghost use Rattle.bounds_prover.specs.ProvedLaws.{IsProvedOf};
 ghost use Rattle.bounds_prover.specs.declared.fault.ProveFault.TheVariants.{Results};
 ghost use Rattle.hereditary_subst.specs.Limits.{NeedsLimit};
 
@@ -167,6 +168,7 @@ fn made(alloc: Global, limited: bool, policy: &Policy, bytes: &[u8]) -> Result<V
 pub fn prove(alloc: Global, policy: &Policy, bytes: &[u8]) -> Result<Vec<u8>, ProveFault>
     ensures exact { IsProveAnswer policy.now bytes.now result }
     ensures accepted { IfOk result (λ out. IsAccepted policy.now out.items) }
+    ensures same { IfOk result (λ out. IsProvedOf bytes.now out.items) }
 {
     prove_within(alloc, true, policy, bytes)
 }
@@ -183,6 +185,7 @@ pub fn prove_within(
 ) -> Result<Vec<u8>, ProveFault>
     ensures exact { IsProveAnswer policy.now bytes.now result }
     ensures accepted { IfOk result (λ out. IsAccepted policy.now out.items) }
+    ensures same { IfOk result (λ out. IsProvedOf bytes.now out.items) }
     ensures limit { NeedsLimit limited Results result }
 {
     prove_laws();

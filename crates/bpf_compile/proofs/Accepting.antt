@@ -26,9 +26,11 @@ use Rattle.vcgen.proofs.Scopes.{condition-closed}
 use Rattle.prover_class.specs.Parts.{conjoined, condition_proof}
 use Rattle.pcc_gate.specs.Accepted.{Accepts, IsAccepted}
 use Rattle.pcc_gate.specs.First.{formulas, vc_of}
-use Rattle.pcc_gate.specs.Passing.{AreLow, Passes}
-use Rattle.pcc_gate.proofs.First.{vc_of-encodes}
-use Rattle.pcc_gate.proofs.FirstFront.{passed-one}
+use Rattle.pcc_gate.specs.Refusals.{AreLow}
+use Rattle.pcc_gate.specs.Passing.{Passes}
+use Rattle.pcc_gate.proofs.Conditions.{vc_of-encodes}
+use Rattle.pcc_gate.proofs.Exactly.{passed-one}
+use Rattle.pcc_gate.proofs.ByClause.{from-proof}
 use Rattle.pcc_gate.proofs.Safe.{formulas-over}
 use Rattle.bounds_prover.specs.Proving.{proved_container, with_proof}
 use Rattle.pcc_asm.specs.Words.{code_bytes}
@@ -153,8 +155,7 @@ module _ (sound : IsSoundClass) (program : List Bpf) (code : List ℕ) (is : IsP
   made-accepts =
       let easy : IsClassProof program p = class-proof program p is given in
       let light = easy.light in
-      record {
-        passes = made-passes;
+      from-proof made-passes (record {
         proof = p;
         vc = vc_of (built_in Filter) None (bpf_code program) (invariant_terms program);
         given = refl;
@@ -167,7 +168,7 @@ module _ (sound : IsSoundClass) (program : List Bpf) (code : List ℕ) (is : IsP
             with-none
             (subst (λ F. Checks (declared Sigma1) [] p (pf (form_encoding F))) parts-are-condition
             proof-checks);
-      }
+      })
 
   pub made-accepted : IsAccepted (built_in Filter) made
   made-accepted = record { contents = with_proof (bpf_contents program code) p; code = bpf_code program; marks = bpf_flags program; accepts = made-accepts }

@@ -16,7 +16,9 @@ use Rattle.proof_container.specs.Contents.{Contents, one_or_none, roots}
 use Rattle.proof_container.specs.Encoding.{AreTerms, AreRising, IsContents, encoding_of}
 use Rattle.proof_container.specs.Postorder.{entries}
 use Rattle.vcgen.specs.Conditions.{inv_part}
-use Rattle.pcc_gate.specs.Passing.{AreLow, Passes}
+use Rattle.pcc_gate.specs.Refusals.{AreLow}
+use Rattle.pcc_gate.specs.Passing.{Passes}
+use Rattle.pcc_gate.proofs.ByClause.{from-clauses}
 use Rattle.bpf_words.specs.declared.insn.Bpf.{Bpf}
 use Rattle.bpf_words.specs.Programs.{IsProgram}
 use Rattle.bpf_code.specs.Blocks.{bpf_code}
@@ -115,7 +117,7 @@ module _ (program : List Bpf) (code : List ℕ) (is : IsProgram program) (holds 
       let size = holds.encode.whole in
       let invs = invs-long program is in
       let few = is.few in
-      record {
+      from-clauses (record {
         size =
             bytes-few (contents_with program code proof) head-is refl fit.few
             (omega (arith, invs, few))
@@ -131,7 +133,7 @@ module _ (program : List Bpf) (code : List ℕ) (is : IsProgram program) (holds 
             (sym (places-again (bpf_invariants program))) (program-flags program is);
         cut = program-cut program is;
         unfolded = program-unfolded program is;
-      }
+      })
 
 -- ---- without a proof
 

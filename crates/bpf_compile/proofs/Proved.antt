@@ -21,7 +21,7 @@ use Rattle.pcc_gate.specs.First.{lemma_refusal}
 use Rattle.pcc_gate.specs.Answers.{HasGoodLemmas}
 use Rattle.pcc_gate.specs.Passing.{Passes}
 use Rattle.pcc_gate.specs.declared.limits.TheConstants.{MAX_WEIGHT}
-use Rattle.pcc_gate.proofs.Lemmas.{good-none}
+use Rattle.pcc_gate.proofs.Exactly.{good-none}
 use Rattle.bounds_prover.specs.declared.fault.Measure.{Measure}
 use Rattle.bounds_prover.specs.declared.fault.Measure.TheVariants.{Weight, Height, Entries, Bytes}
 use Rattle.bounds_prover.specs.declared.fault.ProveFlaw.{ProveFlaw}
@@ -102,7 +102,7 @@ module _ (program : List Bpf) (code : List ℕ) (is : IsProgram program) (holds 
       good-none (built_in Filter) bytes c (bpf_code program) (bpf_flags program) passes
       (no-lemmas-good program code) in
       (λ i. made_unless (none i)
-      (proved_read (built_in Filter) (container_again bytes c passes.container i)))
+      (proved_read (built_in Filter) (container_again bytes c passes.has.container i)))
       ∙ ap (proved_code (built_in Filter) c)
       (sym (decoded_code-ok One code (bpf_code program) holds.encode (code-is program is)))
       ∙ ap (proved_contents c) parts-are

@@ -20,12 +20,18 @@ use Rattle.policy_set.specs.Views.{PolicyView, built_in, IsPolicy}
 use Rattle.policy_set.specs.Digest.{digest_of}
 use Rattle.proof_container.specs.declared.container.Head.TheVariants.{Number, Digest}
 use Rattle.proof_container.specs.Versions.{profile_of, signature_of}
-use Rattle.proof_container.specs.Contents.{Contents}
+use Rattle.proof_container.specs.Contents.{Contents, roots}
 use Rattle.proof_container.specs.Encoding.{EncodesContents}
 use Rattle.vcgen.specs.Encoded.{AreForms, EncodesCondition}
 use Rattle.pcc_gate.specs.Accepted.{Accepts}
 use Rattle.pcc_gate.specs.ForPolicy.{IsFor}
-use Rattle.pcc_gate.specs.Passing.{AreLow, Passes}
+use Rattle.pcc_gate.specs.Refusals.{AreLow}
+use Rattle.pcc_gate.specs.Passing.{Passes}
+use Rattle.pcc_gate.specs.First.{height_found, form_found, formula_found, cut_found, typed_found}
+use Rattle.pcc_gate.proofs.Rows.{low-unfound, form-unfound, formula-unfound}
+use Rattle.pcc_gate.proofs.Exactly.{passes-by, cut-none}
+use Rattle.pcc_gate.proofs.Refusing.{none-next}
+use Rattle.pcc_gate.proofs.ByClause.{by-clause, proof-by-clause, from-proof}
 use Rattle.pcc_gate.specs.Weights.{lemmas_weight, proof_weight}
 use Rattle.pcc_gate.specs.declared.limits.TheConstants.{MAX_WEIGHT}
 use Rattle.gate_upgrade.specs.declared.limits.TheConstants.{OLD_VERSION}
@@ -147,26 +153,25 @@ module _
 
   passes-upgraded : Passes policy bytes u.contents code marks
       → Passes policy out renamed code marks
-  passes-upgraded p =
+  passes-upgraded passes =
+      let p = by-clause passes in
       let named : IsFor policy (Number (kind_number u.kind)) =
       subst (IsFor policy) u.number p.named in
-      record {
-        size = u.short;
+      passes-by policy out renamed code marks u.short (digest-for policy u.kind kept named)
+      (record {
         container = u.new;
-        named = digest-for policy u.kind kept named;
         encoded =
             later u.contents.code code
             (subst (λ (v : ℕ). EncodesCode (profile_of v) u.contents.code code) first p.encoded);
         code = p.code;
-        heights =
-            subst (λ (ts : List Tree). AreLow ts)
-            (renamed-roots (built_in u.kind) u.contents none) p.heights;
-        forms = forms-upgraded p.forms;
-        lemma_forms = no-formulas Sigma2;
-        annotated = p.annotated;
-        cut = p.cut;
-        unfolded = p.unfolded;
-      }
+      }) p.annotated
+      (none-next (height_found (roots renamed)) (typed_found Sigma2 renamed code)
+      (low-unfound (roots renamed)
+      (subst (λ (ts : List Tree). AreLow ts) (renamed-roots (built_in u.kind) u.contents none) p.heights))
+      (none-next (form_found Sigma2 None u.contents.invs) (formula_found Sigma2 [] ∷ cut_found renamed code)
+      (form-unfound Sigma2 None u.contents.invs (forms-upgraded p.forms))
+      (none-next (formula_found Sigma2 []) (cut_found renamed code) (formula-unfound Sigma2 [] (no-formulas Sigma2))
+      (cut-none policy bytes u.contents code marks passes))))
 
   -- with no lemmas a proof checks over the first signature alone
   proved-first : (proof vc : Tree)
@@ -194,7 +199,8 @@ module _
 
   accepts-upgraded : Accepts policy bytes u.contents code marks
       → Accepts policy out renamed code marks
-  accepts-upgraded a =
+  accepts-upgraded accepted =
+      let a = proof-by-clause accepted in
       let proved : Checks (declared Sigma1) [] a.proof (pf a.vc) =
       proved-first a.proof a.vc a.proved in
       let later : Checks (declared Sigma2) [] a.proof (pf a.vc) =
@@ -202,8 +208,7 @@ module _
       let light : proof_weight Sigma1 [] a.proof ≤ MAX_WEIGHT = light-first a.proof a.weight in
       let same : weight_of (places_of Sigma2) a.proof ≡ weight_of (places_of Sigma1) a.proof =
       weighs Sigma1 Sigma2 [] a.proof (pf a.vc) (omega arith) proved in
-      record {
-        passes = passes-upgraded a.passes;
+      from-proof (passes-upgraded accepted.passes) (record {
         proof = a.proof;
         vc = a.vc;
         given = a.given;
@@ -215,12 +220,12 @@ module _
         proved =
             subst (λ (sig : Const → Option Tree). Checks sig [] a.proof (pf a.vc))
             (sym (none-added Sigma2)) later;
-      }
+      })
 
 pub upgraded-accepted : CodeLater → ChecksLonger → WeighsAlike → OneContent → UpgradedAccepted
 upgraded-accepted later longer weighs one policy bytes out kept u it =
     let same : it.contents ≡ u.contents =
-    one bytes it.contents u.contents it.accepts.passes.container u.old in
+    one bytes it.contents u.contents it.accepts.passes.has.container u.old in
     let accepts : Accepts policy bytes u.contents it.code it.marks =
     subst (λ (c : Contents). Accepts policy bytes c it.code it.marks) same it.accepts in
     record {

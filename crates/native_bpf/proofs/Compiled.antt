@@ -90,12 +90,12 @@ module _ (encode : WrittenEncode) (program : List Bpf) (coded : IsCode (bpf_code
   code-one : (bytes : List ℕ) → IsCompilation program bytes → (a : IsAccepted (built_in Filter) bytes) → bpf_code program ≡ a.code
   code-one bytes made a =
       let c : Contents = with_proof (bare_contents program) made.proof in
-      let container = a.accepts.passes.container in
+      let container = a.accepts.passes.has.container in
       let same = one-front bytes c a.contents (program-front made.proof) (held-front a.contents container.contents) made.encoded container.encoded in
       let mine : Ok (bpf_code program) ≡ decoded_code One c.code =
       decoded_code-ok One c.code (bpf_code program) (encode One (bpf_code program) coded first) coded in
       let theirs : Ok a.code ≡ decoded_code (profile_of a.contents.version) a.contents.code =
-      decoded_code-ok (profile_of a.contents.version) a.contents.code a.code a.accepts.passes.encoded a.accepts.passes.code in
+      decoded_code-ok (profile_of a.contents.version) a.contents.code a.code a.accepts.passes.has.encoded a.accepts.passes.has.code in
       ok_code (bpf_code program) a.code (mine ∙ (λ j. decoded_code (profile_of (same.0 j)) (same.1 j)) ∙ sym theirs)
 
 pub compiled-answer : WrittenEncode → ((program : List Bpf) → IsProgram program → IsCode (bpf_code program))

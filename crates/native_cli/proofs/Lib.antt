@@ -4,5 +4,4 @@ mod Translators
 mod Making
 mod Running
 mod Suited
-mod Splitting
 mod Written

@@ -71,21 +71,21 @@ good-end policy metered code call s x (outcomes.Stuck, y) safe may h = absurd h
 pub safe-policy-calls : SafeCalls → AcceptedSafe → SafePolicyCalls
 safe-policy-calls calls accepted policy bytes text metered call s x n is a t may =
     let safe = accepted policy bytes a.contents a.code a.marks is a.accepts in
-    let ready = safe-call policy a.code t.places call s x safe a.accepts.passes.code t.lawful may in
+    let ready = safe-call policy a.code t.places call s x safe a.accepts.passes.has.code t.lawful may in
     subst (λ b. IsGoodNativeEnd policy metered a.code call s (x86_run b n x)) (sym t.text)
     (good-end policy metered a.code call s x _ safe may (calls t.places metered a.code call s x ready n))
 
 pub ending-policy-calls : EndingCalls → AcceptedSafe → EndingPolicyCalls
 ending-policy-calls calls accepted policy bytes text call s x is a t may =
     let safe = accepted policy bytes a.contents a.code a.marks is a.accepts in
-    let ready = safe-call policy a.code t.places call s x safe a.accepts.passes.code t.lawful may in
+    let ready = safe-call policy a.code t.places call s x safe a.accepts.passes.has.code t.lawful may in
     subst (λ b. LeavesWithin b ((call.fuel + 2) * length (native_insns t.places true a.code)) x) (sym t.text)
     (calls t.places a.code call s x ready).leaves
 
 pub bounded-policy-calls : ReturningCalls → AcceptedSafe → AcceptedReturns → BoundedPolicyCalls
 bounded-policy-calls calls accepted returns policy bytes text bound call s x is a most t may =
     let safe = accepted policy bytes a.contents a.code a.marks is a.accepts in
-    let ready = safe-call policy a.code t.places call s x safe a.accepts.passes.code t.lawful may in
+    let ready = safe-call policy a.code t.places call s x safe a.accepts.passes.has.code t.lawful may in
     let enough : bound ≤ bound = omega arith in
     let ended = has-returned (run_of a.code bound s)
     (returns policy bytes a.contents a.code a.marks is a.accepts bound most s may.state may.begins.start may.pre bound enough) in

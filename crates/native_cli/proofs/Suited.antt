@@ -57,19 +57,7 @@ stops-early line less = record {
 
 refusal-early : (r : Refusal) → BeginsEarly (refusal_line r)
 unfolding refusal_line
-refusal-early (refusal.TooLong length) = omega arith
-refusal-early (refusal.Malformed offset flaw) = omega arith
-refusal-early (refusal.OtherPolicy head) = omega arith
-refusal-early (refusal.BadCode flaw) = omega arith
-refusal-early (refusal.Height h) = omega arith
-refusal-early (refusal.InvNotForm k) = omega arith
-refusal-early (refusal.LemmaNotForm k) = omega arith
-refusal-early (refusal.Uncut i) = omega arith
-refusal-early (refusal.UnfoldLimit n) = omega arith
-refusal-early refusal.NoProof = omega arith
-refusal-early (refusal.ProofWeight n) = omega arith
-refusal-early (refusal.LemmaNotProof k) = omega arith
-refusal-early refusal.NotProof = omega arith
+refusal-early r = omega arith
 
 -- ---- stages
 

@@ -22,6 +22,7 @@ use Rattle.proof_container.specs.Decoding.{Fault, decoded_container}
 use Rattle.proof_container.specs.Versions.{profile_of}
 use Rattle.proof_container.proofs.Whole.{container_again}
 use Rattle.pcc_gate.specs.Accepted.{IsAccepted}
+use Rattle.pcc_gate.proofs.ByClause.{by-clause}
 use Rattle.pcc_gate.specs.First.{first_refusal}
 use Rattle.pcc_gate.specs.Laws.{AcceptedFirst}
 use Rattle.term_table.specs.Bytes.{IsBytes}
@@ -87,15 +88,15 @@ slots-lawful code ok = record {
 
 module _ (policy : PolicyView) (bytes : List ℕ) (a : IsAccepted policy bytes) where
   holds : Ok a.contents ≡ decoded_container bytes
-  holds = sym (container_again bytes a.contents a.accepts.passes.container)
+  holds = sym (container_again bytes a.contents a.accepts.passes.has.container)
 
   reads-as : Ok a.code ≡ decoded_code (profile_of a.contents.version) a.contents.code
-  reads-as = decoded_code-ok (profile_of a.contents.version) a.contents.code a.code a.accepts.passes.encoded a.accepts.passes.code
+  reads-as = decoded_code-ok (profile_of a.contents.version) a.contents.code a.code a.accepts.passes.has.encoded a.accepts.passes.has.code
 
   its-container : container_in policy bytes ≡ gives a.contents
   unfolding container_in
   its-container =
-      rw (container_again bytes a.contents a.accepts.passes.container, for-true policy a.contents.head a.accepts.passes.named) refl
+      rw (container_again bytes a.contents a.accepts.passes.has.container, for-true policy a.contents.head (by-clause a.accepts.passes).named) refl
 
   its-code : code_in policy bytes ≡ gives a.code
   unfolding code_in
@@ -165,7 +166,7 @@ module _ (first : AcceptedFirst) where
       → IsTranslation (is_metered a.contents.bound) a.code (any-texts bytes)
   any-accepted policy bytes a = record {
     places = slots;
-    lawful = slots-lawful a.code a.accepts.passes.code;
+    lawful = slots-lawful a.code a.accepts.passes.has.code;
     text = ap default-of (sym (holds policy bytes a)) ∙ ap (default-code a.contents) (sym (reads-as policy bytes a));
   }
 

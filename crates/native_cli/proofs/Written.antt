@@ -2,7 +2,7 @@
 use Rattle.std.proofs.Common.{◌≡◌, ◌↔◌, ℕ, ◌<◌, Bool, true, false, List, [], ◌∷◌, ◌++◌, length, Option, Some, None, is_some, option_map}
 use Rattle.std.proofs.Common.{Result, Ok, Err, refl, sym, ap, ◌∙◌, subst, arith, true≢false, append_assoc}
 use Rattle.std.proofs.lemmas.List.{append-nil}
-use Rattle.file_port.specs.Events.{whole, Event, was_read, was_written}
+use Rattle.file_port.specs.Events.{whole, Event, was_read, was_written, was_put}
 use Rattle.file_port.specs.Files.{FilesState}
 use Rattle.file_port.specs.Sink.{SinkState}
 use Rattle.file_port.specs.declared.port.Put.{Put}
@@ -32,7 +32,7 @@ use Rattle.native_cli.specs.Invocations.{NativeGiven, NativeInvocation, translat
 use Rattle.native_cli.specs.Tasks.{Translatable, Translator, IsTranslator, is_metered, translatable_in, object_in, object_of, object_told}
 use Rattle.native_cli.specs.Tasks.{object_written, translation_of, native_stage, native_standing, native_files}
 use Rattle.native_cli.specs.Texts.{native_texts}
-use Rattle.native_cli.proofs.Splitting.{same-value, joined, follows-gives, stopped-none, one-read, silent, split, stops-with-some, read-bytes}
+use Rattle.pcc_stages.proofs.Splitting.{same-value, joined, follows-gives, stopped-none, one-read, silent, split, stops-with-some}
 use Rattle.native_cli.proofs.Suited.{object-fits, native-suited}
 use Rattle.native_cli.proofs.Translators.{held}
 
@@ -137,6 +137,16 @@ is-made laws texts args object events h =
           ∙ ap (λ b. was_read args.file MAX_FILE (whole b) ∷ []) (sym one.2));
       makes = made.1;
     }
+
+-- ---- what was read
+
+-- what a read gave whole is bytes
+read-bytes : (first : List Event) (name : List ℕ) (max : ℕ) (b : List ℕ) (rest : List Event) (f g : FilesState)
+    → Happens (first ++ was_read name max (whole b) ∷ rest) f g → IsBytes b
+read-bytes [] name max b rest f g h = h.2
+read-bytes (was_read other most given ∷ first) name max b rest f g h = read-bytes first name max b rest h.0 g h.3
+read-bytes (was_written other bytes answer ∷ first) name max b rest f g h = read-bytes first name max b rest h.0 g h.2
+read-bytes (was_put piece answer ∷ first) name max b rest f g h = absurd h
 
 -- ---- the run
 

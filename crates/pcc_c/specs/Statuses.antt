@@ -1,26 +1,9 @@
 -- The number that each reason has in C.
 use Rattle.std.specs.Prelude.{◌≡◌, ◌⊎◌, ℕ, Result, Ok, Err}
-use Rattle.pcc_gate.specs.declared.refusal.Refusal.{Refusal}
-use Rattle.pcc_gate.specs.declared.refusal.Refusal.TheVariants as refusal
+use Rattle.pcc_lines.specs.Refusals.{refusal_number}
 use Rattle.pcc_c.specs.declared.statuses.TheConstants.{DONE, ALREADY, UNKNOWN_POLICY, BAD_POLICY, NO_MEMORY, TOO_MANY_RESULTS, BAD_SOURCE, BAD_PROGRAM, NOT_EASY, TOO_BIG, BAD_VERSION}
 use Rattle.pcc_c.specs.declared.reason.Reason.{Reason}
 use Rattle.pcc_c.specs.declared.reason.Reason.TheVariants as reason
-
--- the number that a refusal's line has after `refused`
-abbrev pub refusal_number : Refusal → ℕ
-refusal_number (refusal.TooLong length) = 1
-refusal_number (refusal.Malformed offset flaw) = 2
-refusal_number (refusal.OtherPolicy head) = 3
-refusal_number (refusal.BadCode flaw) = 4
-refusal_number (refusal.Height h) = 5
-refusal_number (refusal.InvNotForm k) = 6
-refusal_number (refusal.LemmaNotForm k) = 13
-refusal_number (refusal.Uncut i) = 7
-refusal_number (refusal.UnfoldLimit n) = 8
-refusal_number refusal.NoProof = 9
-refusal_number (refusal.ProofWeight n) = 10
-refusal_number (refusal.LemmaNotProof k) = 14
-refusal_number refusal.NotProof = 11
 
 -- the status of a call that does nothing for this reason
 abbrev pub reason_status : Reason → ℕ

@@ -7,7 +7,6 @@ ghost use Rattle.pcc_c.specs.Reasons.{policy_flaw_line, reason_line};
 
 use crate::statuses::{
     ALREADY, BAD_POLICY, BAD_PROGRAM, BAD_SOURCE, BAD_VERSION, NOT_EASY, TOO_BIG, UNKNOWN_POLICY,
-    refusal_number,
 };
 use asm_text::LineFlaw;
 use bounds_prover::Measure;
@@ -18,7 +17,7 @@ use pcc_gate::Refusal;
 use pcc_lines::{
     print_already, print_bpf_flaw, print_not_easy, print_policy_form, print_policy_length,
     print_policy_lines, print_refusal, print_source_fault, print_source_too_long, print_too_big,
-    print_unknown_policy,
+    print_unknown_policy, refusal_number,
 };
 use policy_set::PolicyFlaw;
 

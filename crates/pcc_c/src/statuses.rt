@@ -1,10 +1,5 @@
 //! The statuses that calls return.
 
-ghost use Rattle.std.specs.Prelude.{◌≡◌};
-ghost use Rattle.pcc_c.specs.Statuses.{refusal_number};
-
-use pcc_gate::Refusal;
-
 /// The call did what was asked; the container is accepted.
 pub const DONE: u32 = 0;
 
@@ -50,24 +45,3 @@ pub const NO_HOST: u32 = 43;
 
 /// The packet has more bytes than a packet may have.
 pub const LONG_PACKET: u32 = 44;
-
-/// Returns the number that the refusal's line has after `refused`.
-pub fn refusal_number(refusal: Refusal) -> u32
-    ensures { result ≡ refusal_number refusal }
-{
-    match refusal {
-        Refusal::TooLong(_) => 1,
-        Refusal::Malformed(_, _) => 2,
-        Refusal::OtherPolicy(_) => 3,
-        Refusal::BadCode(_) => 4,
-        Refusal::Height(_) => 5,
-        Refusal::InvNotForm(_) => 6,
-        Refusal::Uncut(_) => 7,
-        Refusal::UnfoldLimit(_) => 8,
-        Refusal::NoProof => 9,
-        Refusal::ProofWeight(_) => 10,
-        Refusal::NotProof => 11,
-        Refusal::LemmaNotForm(_) => 13,
-        Refusal::LemmaNotProof(_) => 14,
-    }
-}

@@ -19,7 +19,7 @@ use Rattle.agent_script.specs.Texts.{SpellsScript, HasFault}
 use Rattle.pcc_gate.specs.declared.refusal.Refusal.{Refusal}
 use Rattle.pcc_gate.specs.Accepted.{IsAccepted}
 use Rattle.pcc_gate.specs.First.{first_refusal}
-use Rattle.pcc_gate.specs.Refusals.{IsFirstRefusal}
+use Rattle.pcc_gate.specs.Clauses.{IsFirstRefusal}
 use Rattle.bpf_words.specs.declared.insn.Bpf.{Bpf}
 use Rattle.bpf_words.specs.declared.fault.BpfFlaw.{BpfFlaw}
 use Rattle.bpf_words.specs.Flaws.{MeansFlaw}

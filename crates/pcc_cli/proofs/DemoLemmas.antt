@@ -8,7 +8,7 @@ use Rattle.policy_set.proofs.Closed.{policy_of-is}
 use Rattle.proof_container.specs.Encoding.{encoding_of}
 use Rattle.pcc_asm.specs.Assembling.{plain_contents}
 use Rattle.pcc_gate.specs.Accepted.{IsAccepted}
-use Rattle.pcc_gate.proofs.First.{accepted-none}
+use Rattle.pcc_gate.proofs.Exactly.{accepted-none}
 use Rattle.pcc_demo.specs.Sources.{demo_source}
 use Rattle.pcc_lines.specs.Demo.{demo_lines}
 use Rattle.pcc_stages.specs.Exits.{Exit}

@@ -18,7 +18,7 @@ use Rattle.agent_script.specs.Scripts.{ScriptView}
 use Rattle.agent_script.specs.Texts.{SpellsScript}
 use Rattle.pcc_gate.specs.Accepted.{IsAccepted}
 use Rattle.pcc_gate.specs.First.{first_refusal}
-use Rattle.pcc_gate.specs.Refusals.{IsFirstRefusal}
+use Rattle.pcc_gate.specs.Clauses.{IsFirstRefusal}
 use Rattle.pcc_gate.specs.declared.refusal.Refusal.{Refusal}
 use Rattle.pcc_words.specs.Invocations.{named, from_file, Invocation, asm, prove, check, run, ref, demo, upgrade, host, bpf, command_of}
 use Rattle.pcc_lines.specs.Fixed.{accepted_line, bpf_too_long_line, container_too_long_line, packets_too_long_line, policy_too_long_line, unknown_policy_line}

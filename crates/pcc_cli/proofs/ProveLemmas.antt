@@ -14,8 +14,8 @@ use Rattle.alpha_cfg.proofs.Readings.{decoded_code-ok}
 use Rattle.pcc_gate.specs.declared.refusal.Refusal.{Refusal}
 use Rattle.pcc_gate.specs.Passing.{Passes}
 use Rattle.pcc_gate.specs.First.{lemma_refusal}
-use Rattle.pcc_gate.specs.Refusals.{IsLemmaRefusal}
-use Rattle.pcc_gate.proofs.Lemmas.{good-none, none-good, lemma-is}
+use Rattle.pcc_gate.specs.Clauses.{IsLemmaRefusal}
+use Rattle.pcc_gate.proofs.Exactly.{good-none, none-good, lemma-is}
 use Rattle.prover_class.specs.Parts.{condition_proof, first_not_easy}
 use Rattle.prover_conditions.specs.Conditions.{condition_parts}
 use Rattle.bounds_prover.specs.declared.fault.ProveFlaw.{ProveFlaw}
@@ -57,9 +57,9 @@ module _ (under : PolicyView) (b : List ℕ) where
       → proved_container under b ≡ proved_contents c (condition_parts under c.bound code c.invs)
   unfolding proved_container
   contents-made c code marks passes none =
-      (λ i. made_unless (none i) (proved_read under (container_again b c passes.container i)))
+      (λ i. made_unless (none i) (proved_read under (container_again b c passes.has.container i)))
       ∙ ap (proved_code under c)
-      (sym (decoded_code-ok (profile_of c.version) c.code code passes.encoded passes.code))
+      (sym (decoded_code-ok (profile_of c.version) c.code code passes.has.encoded passes.has.code))
 
   -- else it is refused
   refused-made : (r : Refusal) → lemma_refusal under b ≡ Some r → proved_container under b ≡ Err (Refused r)
@@ -118,7 +118,7 @@ module _ (accepted : ProvedAccepted) (under : PolicyView) (kept : IsPolicy under
       record {
         contents = c.contents;
         proof = m.proof;
-        given = c.passes.container;
+        given = c.passes.has.container;
         made = m.out_is;
         accepted = accepted under b out kept fits e;
       }

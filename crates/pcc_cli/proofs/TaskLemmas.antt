@@ -111,19 +111,7 @@ stop_line text less = record {
 
 refusal-first : (r : Refusal) → get_or (refusal_line r) 0 0 ≡ 114
 unfolding refusal_line
-refusal-first (refusal.TooLong length) = refl
-refusal-first (refusal.Malformed offset flaw) = refl
-refusal-first (refusal.OtherPolicy head) = refl
-refusal-first (refusal.BadCode flaw) = refl
-refusal-first (refusal.Height h) = refl
-refusal-first (refusal.InvNotForm k) = refl
-refusal-first (refusal.LemmaNotForm k) = refl
-refusal-first (refusal.Uncut i) = refl
-refusal-first (refusal.UnfoldLimit n) = refl
-refusal-first refusal.NoProof = refl
-refusal-first (refusal.ProofWeight n) = refl
-refusal-first (refusal.LemmaNotProof k) = refl
-refusal-first refusal.NotProof = refl
+refusal-first r = refl
 
 packet_fault-first : (fault : PacketFault) → get_or (packet_fault_line fault) 0 0 ≡ 112
 unfolding packet_fault_line

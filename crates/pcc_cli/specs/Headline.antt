@@ -27,8 +27,8 @@ use Rattle.vcgen.specs.Safety.{IsGoodEnd, IsReturn}
 use Rattle.pcc_gate.specs.declared.refusal.Refusal.{Refusal}
 use Rattle.pcc_gate.specs.Accepted.{IsAccepted}
 use Rattle.pcc_gate.specs.WrittenOut.{IsAcceptedWrittenOut}
-use Rattle.pcc_gate.specs.Passing.{Passes}
-use Rattle.pcc_gate.specs.Refusals.{HasCode, IsFirstRefusal, IsLemmaRefusal}
+use Rattle.pcc_gate.specs.Passing.{Passes, PassesRead}
+use Rattle.pcc_gate.specs.Clauses.{IsFirstRefusal, IsLemmaRefusal}
 use Rattle.pcc_gate.specs.Answers.{HasGoodLemmas}
 use Rattle.proof_container.specs.Contents.{Contents}
 use Rattle.proof_container.specs.Encoding.{EncodesContents, encoding_of}
@@ -185,7 +185,7 @@ pub record IsWithoutCode (policy : PolicyView) (bytes : List ℕ) (exit : Exit) 
   pub refusal : Refusal
   pub first : IsFirstRefusal policy bytes refusal
   pub told : exit ≡ refused (refusal_line refusal)
-  pub none : (contents : Contents) (code : List Insn) → HasCode policy bytes contents code → ⊥
+  pub none : (contents : Contents) (code : List Insn) → PassesRead policy bytes contents code → ⊥
 
 -- `ref`: one read, of FILE, which has no code for the policy; or PACKETS is read behind it, and the
 -- lines are those of the machine that tests every access, of the code that the bytes have, which of
@@ -197,7 +197,7 @@ pub data Refs (policy : PolicyView) (file packets : List ℕ) (steps : ℕ) (eve
       → Refs policy file packets steps events exit
   ran : (bytes : List ℕ) (contents : Contents) (code : List Insn) (given : Given)
       → events ≡ was_read file MAX_FILE (whole bytes) ∷ was_read packets MAX_FILE given ∷ []
-      → HasCode policy bytes contents code → IsRunBy policy code steps packets given exit
+      → PassesRead policy bytes contents code → IsRunBy policy code steps packets given exit
       → ((a : IsAccepted policy bytes) → code ≡ a.code)
       → Refs policy file packets steps events exit
 

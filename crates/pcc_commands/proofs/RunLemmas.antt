@@ -10,6 +10,7 @@ use Rattle.proof_container.specs.Contents.{Contents}
 use Rattle.pcc_gate.specs.Passing.{Passes}
 use Rattle.proof_container.specs.Versions.{profile_of}
 use Rattle.pcc_gate.proofs.ForPolicy.{for-true}
+use Rattle.pcc_gate.proofs.ByClause.{by-clause}
 use Rattle.pcc_gate.specs.First.{first_refusal}
 use Rattle.pcc_gate.specs.Answers.{IsAcceptedBy}
 use Rattle.pcc_gate.specs.Views.{AcceptedView}
@@ -28,8 +29,8 @@ module _ (policy : PolicyView) (bytes : List ℕ) (contents : Contents) (code : 
   unfolding container_in
   container_given =
       rw (
-        container_again bytes contents passes.container,
-        for-true policy contents.head passes.named,
+        container_again bytes contents passes.has.container,
+        for-true policy contents.head (by-clause passes).named,
       ) refl
 
   pub code_given : code_in policy bytes ≡ gives code
@@ -39,8 +40,8 @@ module _ (policy : PolicyView) (bytes : List ℕ) (contents : Contents) (code : 
       (λ c. c >>= λ container. code_found
       (decoded_code (profile_of container.version) container.code)) container_given
       ∙ ap code_found
-      (sym (decoded_code-ok (profile_of contents.version) contents.code code passes.encoded
-      passes.code))
+      (sym (decoded_code-ok (profile_of contents.version) contents.code code passes.has.encoded
+      passes.has.code))
 
   -- what is accepted has the code that the bytes hold
   pub accepted_code_of_bytes : first_refusal policy bytes ≡ None → accepted_code_in policy bytes ≡ gives code

@@ -16,4 +16,4 @@ pub use commands::{
     ref_command, run_command, upgrade_command,
 };
 pub use report::Report;
-pub use stages::MAX_PROGRAM_FILE;
+pub use stages::{MAX_PROGRAM_FILE, assembled_in};

@@ -10,7 +10,6 @@ use Rattle.alpha_cfg.specs.CodeBytes.{EncodesCode}
 use Rattle.alpha_cfg.specs.CodeDecoding.{decoded_code}
 use Rattle.alpha_cfg.specs.Deciding.{flags_of}
 use Rattle.alpha_cfg.specs.Flow.{IsCode}
-use Rattle.alpha_cfg.proofs.Deciding.{uncut_none}
 use Rattle.formula_tree.specs.Formulas.{Exp, EVar, ELit, EOp, Form, FTrue, FRel, FAnd, FImp, FAll}
 use Rattle.lf_terms.specs.Encoding.{form_encoding}
 use Rattle.lf_terms.specs.ProofTerms.{tt_i, and_i, and_l, imp_i, all_i, move, swap, calc, fact}
@@ -21,7 +20,6 @@ use Rattle.lf_signature.specs.Terms.{pf}
 use Rattle.lf_signature.specs.Typing.{Checks}
 use Rattle.lf_signature.specs.Decide.{checks_of}
 use Rattle.lf_signature.specs.Laws.Decided.{checks_follows}
-use Rattle.lf_lemmas.specs.Lemmas.{AreFormulas}
 use Rattle.policy_set.specs.declared.kind.PolicyKind.TheVariants.{Tag}
 use Rattle.policy_set.specs.Digest.{digest_of}
 use Rattle.policy_set.specs.Views.{built_in}
@@ -35,13 +33,16 @@ use Rattle.vcgen.specs.Assignments.{unchanged}
 use Rattle.vcgen.specs.Conditions.{condition}
 use Rattle.vcgen.specs.Encoded.{annotated}
 use Rattle.word_ops.specs.declared.Profile.TheVariants.{Two}
-use Rattle.pcc_gate.specs.First.{too_high}
+use Rattle.pcc_gate.specs.First.{first_some, shape_found}
+use Rattle.pcc_gate.specs.Clauses.{HasCode}
+use Rattle.pcc_gate.specs.Passing.{Passes}
 use Rattle.pcc_gate.specs.Weights.{proof_weight}
 use Rattle.pcc_gate.specs.Witness.{load_and_return, BoundIsAccepted}
 use Rattle.pcc_gate.proofs.Digests.{digest-head}
-use Rattle.pcc_gate.proofs.Searches.{none_low}
 use Rattle.pcc_gate.proofs.Ready.{are_ready, all_ready, bytes_from, all_nodes, few_of, all_fields_few}
-use Rattle.pcc_gate.proofs.FirstFront.{annotated_flags}
+use Rattle.pcc_gate.proofs.Flags.{annotated_flags}
+use Rattle.pcc_gate.proofs.ByClause.{from-proof}
+use Rattle.pcc_gate.proofs.Exactly.{passes-by}
 use Rattle.pcc_gate.proofs.Witness.{first_read, asked_rest, asked, closing, closed, told, encoded_as, none_added}
 
 -- ---- what has to be proved
@@ -162,13 +163,6 @@ decoded = refl
 encoded : EncodesCode Two load_bytes load_and_return × IsCode load_and_return
 encoded = encoded_as Two load_bytes load_and_return refl (omega arith) (omega arith) decoded
 
-none_high : too_high (roots contents) ≡ None
-unfolding whole_proof
-none_high = refl
-
-no_lemmas : AreFormulas (declared Sigma3) []
-no_lemmas n F e = absurd (none-some F e)
-
 is_said : form_encoding (condition (annotated (built_in Tag) (Some 2) load_and_return []))
     ≡ form_encoding said
 unfolding machine_names unchanged
@@ -182,26 +176,30 @@ light : nat_le (proof_weight Sigma3 [] whole_proof) 1048576 ≡ true
 unfolding whole_proof
 light = refl
 
+-- nothing is found of them
+none : first_some (shape_found Sigma3 contents load_and_return) ≡ None
+unfolding whole_proof
+none = refl
+
+held : HasCode (encoding_of contents) contents load_and_return
+held = record {
+  container = record { contents = is_contents; encoded = refl };
+  encoded = encoded.0;
+  code = encoded.1;
+}
+
+passes : Passes (built_in Tag) (encoding_of contents) contents load_and_return marks
+passes =
+    passes-by (built_in Tag) (encoding_of contents) contents load_and_return marks size refl held
+    (annotated_flags Two contents load_and_return is_contents encoded.0) none
+
 pub bound_is_accepted : BoundIsAccepted
 bound_is_accepted = record {
   bytes = encoding_of contents;
   contents = contents;
   marks = marks;
   bound = refl;
-  accepts = record {
-    passes = record {
-      size = size;
-      container = record { contents = is_contents; encoded = refl };
-      named = refl;
-      encoded = encoded.0;
-      code = encoded.1;
-      heights = none_low (roots contents) none_high;
-      forms = tt;
-      lemma_forms = no_lemmas;
-      annotated = annotated_flags Two contents load_and_return is_contents encoded.0;
-      cut = uncut_none load_and_return marks encoded.1 refl;
-      unfolded = omega arith;
-    };
+  accepts = from-proof passes (record {
     proof = whole_proof;
     vc = form_encoding said;
     given = refl;
@@ -211,5 +209,5 @@ bound_is_accepted = record {
     proved =
         subst (λ sig. Checks sig [] whole_proof (pf (form_encoding said))) (sym (none_added Sigma3))
         (checks_follows (declared Sigma3) whole_proof [] (pf (form_encoding said)) checked);
-  };
+  });
 }

@@ -7,16 +7,14 @@ use Rattle.std.proofs.lemmas.Option.{none-some}
 use Rattle.alpha_cfg.specs.CodeBytes.{EncodesCode}
 use Rattle.alpha_cfg.specs.CodeDecoding.{decoded_code}
 use Rattle.alpha_cfg.specs.Flow.{IsCode}
-use Rattle.alpha_cfg.proofs.Deciding.{uncut_none}
 use Rattle.lf_terms.specs.Encoding.{form_encoding}
-use Rattle.lf_encode.specs.Contexts.{machine_context, machine_names, sort_types}
+use Rattle.lf_encode.specs.Contexts.{machine_context, machine_names}
 use Rattle.lf_signature.specs.Constants.{declared, constant_types, the_rules}
 use Rattle.lf_signature.specs.declared.editions.WordSignature.TheVariants.{Sigma2}
-use Rattle.lf_signature.specs.Terms.{form, pf}
+use Rattle.lf_signature.specs.Terms.{pf}
 use Rattle.lf_signature.specs.Typing.{Checks}
 use Rattle.lf_signature.specs.Decide.{checks_of}
 use Rattle.lf_signature.specs.Laws.Decided.{checks_follows}
-use Rattle.lf_lemmas.specs.Lemmas.{AreFormulas}
 use Rattle.policy_set.specs.declared.kind.PolicyKind.TheVariants.{Tag}
 use Rattle.policy_set.specs.Digest.{digest_of}
 use Rattle.policy_set.specs.Views.{built_in}
@@ -25,15 +23,17 @@ use Rattle.proof_container.specs.declared.container.Head.TheVariants.{Digest}
 use Rattle.proof_container.specs.Encoding.{IsContents, policy_bytes, bound_fields, encoding_of}
 use Rattle.proof_container.specs.Postorder.{entries}
 use Rattle.proof_container.proofs.Written.{length-encoding_of}
-use Rattle.vcgen.specs.Encoded.{AreForms}
 use Rattle.word_ops.specs.declared.Profile.TheVariants.{Two}
-use Rattle.pcc_gate.specs.First.{too_high}
+use Rattle.pcc_gate.specs.First.{first_some, shape_found}
+use Rattle.pcc_gate.specs.Clauses.{HasCode}
+use Rattle.pcc_gate.specs.Passing.{Passes}
 use Rattle.pcc_gate.specs.Weights.{proof_weight}
 use Rattle.pcc_gate.specs.Witness.{loop_code, DigestIsAccepted}
 use Rattle.pcc_gate.proofs.Digests.{digest-head}
-use Rattle.pcc_gate.proofs.Searches.{none_low}
 use Rattle.pcc_gate.proofs.Ready.{are_ready, all_ready, all_nodes, few_of, all_fields_few}
-use Rattle.pcc_gate.proofs.FirstFront.{annotated_flags}
+use Rattle.pcc_gate.proofs.Flags.{annotated_flags}
+use Rattle.pcc_gate.proofs.ByClause.{from-proof}
+use Rattle.pcc_gate.proofs.Exactly.{passes-by}
 use Rattle.pcc_gate.proofs.Witness.{whole_proof, code_bytes, code_is_bytes, marks, inv_term, invariant, said, is_said, over, told, encoded_in, none_added}
 
 abbrev contents : Contents
@@ -102,21 +102,6 @@ decoded = refl
 encoded : EncodesCode Two code_bytes loop_code × IsCode loop_code
 encoded = encoded_in Two decoded
 
-none_high : too_high (roots contents) ≡ None
-unfolding whole_proof
-none_high = refl
-
-inv_formed : checks_of (declared Sigma2) inv_term (sort_types machine_context) form ≡ true
-unfolding constant_types the_rules machine_context
-inv_formed = refl
-
-forms : AreForms Sigma2 None ((2, inv_term) ∷ [])
-forms =
-    (checks_follows (declared Sigma2) inv_term (sort_types machine_context) form inv_formed, tt)
-
-no_lemmas : AreFormulas (declared Sigma2) []
-no_lemmas n F e = absurd (none-some F e)
-
 checked : checks_of (declared Sigma2) whole_proof [] (pf (form_encoding said)) ≡ true
 unfolding whole_proof constant_types the_rules
 checked = refl
@@ -125,6 +110,23 @@ light : nat_le (proof_weight Sigma2 [] whole_proof) 1048576 ≡ true
 unfolding whole_proof
 light = refl
 
+-- nothing is found of them
+none : first_some (shape_found Sigma2 contents loop_code) ≡ None
+unfolding whole_proof constant_types the_rules machine_context
+none = refl
+
+held : HasCode (encoding_of contents) contents loop_code
+held = record {
+  container = record { contents = is_contents; encoded = refl };
+  encoded = encoded.0;
+  code = encoded.1;
+}
+
+passes : Passes (built_in Tag) (encoding_of contents) contents loop_code marks
+passes =
+    passes-by (built_in Tag) (encoding_of contents) contents loop_code marks size refl held
+    (annotated_flags Two contents loop_code is_contents encoded.0) none
+
 pub digest_is_accepted : DigestIsAccepted
 unfolding machine_names machine_context
 digest_is_accepted = record {
@@ -132,20 +134,7 @@ digest_is_accepted = record {
   contents = contents;
   marks = marks;
   version = refl;
-  accepts = record {
-    passes = record {
-      size = size;
-      container = record { contents = is_contents; encoded = refl };
-      named = refl;
-      encoded = encoded.0;
-      code = encoded.1;
-      heights = none_low (roots contents) none_high;
-      forms = forms;
-      lemma_forms = no_lemmas;
-      annotated = annotated_flags Two contents loop_code is_contents encoded.0;
-      cut = uncut_none loop_code marks encoded.1 refl;
-      unfolded = omega arith;
-    };
+  accepts = from-proof passes (record {
     proof = whole_proof;
     vc = form_encoding said;
     given = refl;
@@ -159,5 +148,5 @@ digest_is_accepted = record {
     proved =
         subst (λ sig. Checks sig [] whole_proof (pf (form_encoding said))) (sym (none_added Sigma2))
         (checks_follows (declared Sigma2) whole_proof [] (pf (form_encoding said)) checked);
-  };
+  });
 }

@@ -7,18 +7,17 @@ use Rattle.std.proofs.lemmas.Option.{none-some}
 use Rattle.alpha_cfg.specs.CodeBytes.{EncodesCode}
 use Rattle.alpha_cfg.specs.CodeDecoding.{decoded_code}
 use Rattle.alpha_cfg.specs.Flow.{IsCode}
-use Rattle.alpha_cfg.proofs.Deciding.{uncut_none}
 use Rattle.formula_tree.specs.Formulas.{FTrue, FAnd}
 use Rattle.lf_terms.specs.Encoding.{form_encoding}
 use Rattle.lf_terms.specs.ProofTerms.{tt_i, and_i}
-use Rattle.lf_encode.specs.Contexts.{machine_context, machine_names, sort_types}
+use Rattle.lf_encode.specs.Contexts.{machine_context, machine_names}
 use Rattle.lf_signature.specs.Constants.{declared, constant_types, the_rules}
 use Rattle.lf_signature.specs.declared.editions.WordSignature.TheVariants.{Sigma2}
-use Rattle.lf_signature.specs.Terms.{form, pf}
+use Rattle.lf_signature.specs.Terms.{pf}
 use Rattle.lf_signature.specs.Typing.{Checks}
 use Rattle.lf_signature.specs.Decide.{checks_of}
 use Rattle.lf_signature.specs.Laws.Decided.{checks_follows}
-use Rattle.lf_lemmas.specs.Lemmas.{formulas_of, with_lemmas, AreFormulas}
+use Rattle.lf_lemmas.specs.Lemmas.{formulas_of, with_lemmas}
 use Rattle.lf_lemmas.specs.Checking.{LemmasCheck}
 use Rattle.lf_lemmas.specs.WrittenOut.{cites_below}
 use Rattle.policy_set.specs.declared.kind.PolicyKind.TheVariants.{Tag}
@@ -31,15 +30,17 @@ use Rattle.proof_container.specs.Postorder.{entries}
 use Rattle.proof_container.proofs.Written.{length-encoding_of}
 use Rattle.term_table.proofs.Options.{some_injective}
 use Rattle.term_table.specs.Tree.{Tree, Con, Lemma}
-use Rattle.vcgen.specs.Encoded.{AreForms}
 use Rattle.word_ops.specs.declared.Profile.TheVariants.{Two}
-use Rattle.pcc_gate.specs.First.{too_high}
+use Rattle.pcc_gate.specs.First.{first_some, shape_found}
+use Rattle.pcc_gate.specs.Clauses.{HasCode}
+use Rattle.pcc_gate.specs.Passing.{Passes}
 use Rattle.pcc_gate.specs.Weights.{proof_weight}
 use Rattle.pcc_gate.specs.Witness.{loop_code, LemmaIsAccepted}
 use Rattle.pcc_gate.proofs.Digests.{digest-head}
-use Rattle.pcc_gate.proofs.Searches.{none_low}
 use Rattle.pcc_gate.proofs.Ready.{are_ready, all_ready, all_nodes, few_of, all_fields_few}
-use Rattle.pcc_gate.proofs.FirstFront.{annotated_flags}
+use Rattle.pcc_gate.proofs.Flags.{annotated_flags}
+use Rattle.pcc_gate.proofs.ByClause.{from-proof}
+use Rattle.pcc_gate.proofs.Exactly.{passes-by}
 use Rattle.pcc_gate.proofs.Witness.{closing, closed, entry_proof, loop_proof, entry_part, loop_part, code_bytes, code_is_bytes, marks, inv_term, invariant, said, is_said, over, told, encoded_in}
 
 -- ---- the container
@@ -127,28 +128,6 @@ decoded = refl
 encoded : EncodesCode Two code_bytes loop_code × IsCode loop_code
 encoded = encoded_in Two decoded
 
-none_high : too_high (roots contents) ≡ None
-unfolding lemma_proof citing_proof
-none_high = refl
-
-inv_formed : checks_of (declared Sigma2) inv_term (sort_types machine_context) form ≡ true
-unfolding constant_types the_rules machine_context
-inv_formed = refl
-
-forms : AreForms Sigma2 None ((2, inv_term) ∷ [])
-forms =
-    (checks_follows (declared Sigma2) inv_term (sort_types machine_context) form inv_formed, tt)
-
-lemma_formed : checks_of (declared Sigma2) lemma_form [] form ≡ true
-unfolding constant_types the_rules
-lemma_formed = refl
-
-lemma_forms : AreFormulas (declared Sigma2) (formulas_of lemmas)
-lemma_forms zero F e =
-    subst (λ G. Checks (declared Sigma2) [] G form) (some_injective e)
-    (checks_follows (declared Sigma2) lemma_form [] form lemma_formed)
-lemma_forms (suc n) F e = absurd (none-some F e)
-
 lemma_checked : checks_of (with_lemmas (declared Sigma2) []) lemma_proof [] (pf lemma_form) ≡ true
 unfolding lemma_proof constant_types the_rules
 lemma_checked = refl
@@ -173,6 +152,23 @@ light : nat_le (proof_weight Sigma2 lemmas citing_proof) 1048576 ≡ true
 unfolding lemma_proof citing_proof
 light = refl
 
+-- nothing is found of them
+none : first_some (shape_found Sigma2 contents loop_code) ≡ None
+unfolding lemma_proof citing_proof constant_types the_rules machine_context
+none = refl
+
+held : HasCode (encoding_of contents) contents loop_code
+held = record {
+  container = record { contents = is_contents; encoded = refl };
+  encoded = encoded.0;
+  code = encoded.1;
+}
+
+passes : Passes (built_in Tag) (encoding_of contents) contents loop_code marks
+passes =
+    passes-by (built_in Tag) (encoding_of contents) contents loop_code marks size refl held
+    (annotated_flags Two contents loop_code is_contents encoded.0) none
+
 pub lemma_is_accepted : LemmaIsAccepted
 unfolding machine_names machine_context
 lemma_is_accepted = record {
@@ -184,20 +180,7 @@ lemma_is_accepted = record {
   lemmas = refl;
   given = refl;
   cites = cites;
-  accepts = record {
-    passes = record {
-      size = size;
-      container = record { contents = is_contents; encoded = refl };
-      named = refl;
-      encoded = encoded.0;
-      code = encoded.1;
-      heights = none_low (roots contents) none_high;
-      forms = forms;
-      lemma_forms = lemma_forms;
-      annotated = annotated_flags Two contents loop_code is_contents encoded.0;
-      cut = uncut_none loop_code marks encoded.1 refl;
-      unfolded = omega arith;
-    };
+  accepts = from-proof passes (record {
     proof = citing_proof;
     vc = form_encoding said;
     given = refl;
@@ -211,5 +194,5 @@ lemma_is_accepted = record {
     proved =
         checks_follows (with_lemmas (declared Sigma2) (formulas_of lemmas)) citing_proof []
         (pf (form_encoding said)) checked;
-  };
+  });
 }

@@ -3,9 +3,12 @@ pub mod WrittenOut
 pub mod Safe
 pub mod CodeBytes
 pub mod Searches
-pub mod FirstFront
-pub mod First
-pub mod Lemmas
+pub mod Conditions
+pub mod Flags
+pub mod Deciding
+pub mod Rows
+pub mod ByClause
+pub mod Exactly
 mod Ready
 pub mod Digests
 mod Witness

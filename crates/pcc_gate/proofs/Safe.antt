@@ -28,6 +28,7 @@ use Rattle.vcgen.proofs.Encodings.{encoded-annotates, encoding-unique, policy-sa
 use Rattle.pcc_gate.specs.Accepted.{Accepts}
 use Rattle.pcc_gate.specs.Safe.{ReturnsInBound}
 use Rattle.pcc_gate.specs.WrittenOut.{AcceptsWrittenOut}
+use Rattle.pcc_gate.proofs.ByClause.{by-clause, proof-by-clause}
 use Rattle.pcc_gate.proofs.WrittenOut.{accepted-written}
 use Rattle.lf_signature.specs.declared.editions.WordSignature.{WordSignature}
 
@@ -62,14 +63,14 @@ module _ (sound : AreSound) (policy : PolicyView) (bytes : List ℕ) (contents :
     (code : List Insn) (marks : List Bool) (kept : IsPolicy policy)
     (a : Accepts policy bytes contents code marks) where
   fits : IsBound contents.bound
-  fits = bound-fits contents.version contents.bound a.passes.container.contents.bound
+  fits = bound-fits contents.version contents.bound a.passes.has.container.contents.bound
 
   -- The condition of any formulas that the invariants encode is true in every structure: the proof
   -- with every lemma written out proves it.
   pub accepted-valid : (fs : List (ℕ × Form)) → AreEncodings contents.bound contents.invs fs
       → IsValid (condition (annotated policy contents.bound code fs))
   accepted-valid fs enc =
-      let p = a.passes in
+      let p = by-clause a.passes in
       let most = contents.bound in
       let f : Form = condition (annotated policy most code fs) in
       let out : AcceptsWrittenOut policy bytes contents code marks =
@@ -90,16 +91,16 @@ module _ (sound : AreSound) (policy : PolicyView) (bytes : List ℕ) (contents :
 
   pub accepted-safe : IsSafe code policy.pre policy.post
   accepted-safe =
-      let p = a.passes in
-      let e = a.condition in
+      let p = by-clause a.passes in
+      let e = (proof-by-clause a).condition in
       policy-safe policy contents.bound code contents.invs e.formulas marks kept fits e.encoded
       p.code p.annotated p.cut (accepted-valid e.formulas e.encoded)
 
   -- where the container has a bound, it returns within that
   pub accepted-returns : ReturnsInBound policy contents.bound code
   accepted-returns most is =
-      let p = a.passes in
-      let e = a.condition in
+      let p = by-clause a.passes in
+      let e = (proof-by-clause a).condition in
       let fs : List (ℕ × Form) = e.formulas in
       let encoded : AreEncodings (Some most) contents.invs fs =
       subst (λ b. AreEncodings b contents.invs fs) is e.encoded in

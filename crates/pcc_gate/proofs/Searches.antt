@@ -21,7 +21,7 @@ use Rattle.lf_lemma_check.proofs.Backwards.{all_before, before_passes}
 use Rattle.lf_encode.specs.Contexts.{sort_types}
 use Rattle.vcgen.specs.declared.condition.TheConstants.{MAX_HEIGHT}
 use Rattle.vcgen.specs.Encoded.{context_of, AreForms}
-use Rattle.pcc_gate.specs.Passing.{AreLow}
+use Rattle.pcc_gate.specs.Refusals.{AreLow}
 use Rattle.pcc_gate.specs.First.{has_form, too_high, formless, lemma_formless, lemma_unproved}
 use Rattle.pcc_gate.specs.Refusals.{IsFirstHeight, IsFirstNoForm, IsFirstNoFormula, IsFirstUnproved}
 use Rattle.lf_signature.specs.declared.editions.WordSignature.{WordSignature}

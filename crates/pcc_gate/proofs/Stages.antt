@@ -1,5 +1,5 @@
 -- What passes the stages passes the clauses.
-use Rattle.std.proofs.Common.{◌≡◌, ◌≤◌, ℕ, ◌++◌, ◌∷◌, Bool, true, List, [], map, length, cond, Option, Some, None, option_map, Result, Ok, Err, IfOk, refl, sym, ◌∙◌, ap, subst}
+use Rattle.std.proofs.Common.{◌≡◌, ◌≤◌, ℕ, ◌++◌, ◌∷◌, Bool, true, List, [], map, length, Option, Some, None, option_map, Result, Ok, Err, IfOk, refl, sym, ◌∙◌, ap, subst}
 use Rattle.alpha_words.specs.declared.insn.Insn.{Insn}
 use Rattle.alpha_cfg.specs.CodeDecoding.{decoded_code}
 use Rattle.alpha_cfg.specs.Cuts.{CutView, AreFlags}
@@ -12,7 +12,7 @@ use Rattle.pcc_gate.proofs.Kept.{known-more, trees-same}
 use Rattle.pcc_gate.proofs.Safe.{AreSound, bound-fits, accepted-safe, accepted-returns, accepted-valid}
 use Rattle.vcgen.specs.Answers.{AreLowInvs}
 use Rattle.term_table.specs.Tree.{Tree}
-use Rattle.term_table.specs.Measures.{height_of, capped}
+use Rattle.term_table.specs.Measures.{height_of}
 use Rattle.lf_signature.specs.Constants.{declared, Longest}
 use Rattle.lf_lemmas.specs.Lemmas.{formulas_of, with_lemmas, AreFormulas}
 use Rattle.lf_lemmas.specs.Tables.{lemmas_in, LemmasKnown}
@@ -24,29 +24,33 @@ use Rattle.pcc_gate.specs.declared.limits.TheConstants.{MAX_WEIGHT}
 use Rattle.pcc_gate.specs.Accepted.{Accepts, IsAccepted}
 use Rattle.pcc_gate.specs.WrittenOut.{IsWrittenOutAnswer}
 use Rattle.pcc_gate.specs.Weights.{lemmas_weight, proof_weight}
-use Rattle.pcc_gate.specs.Inside.Acceptance.{IsProofFound, IsLemmaWeight, AreLemmasProved, IsProofAnswer, IsProved}
-use Rattle.pcc_gate.proofs.First.{vc_of-encodes, accepted-none}
+use Rattle.pcc_gate.specs.Inside.Acceptance.{IsProofFound, IsProofAnswer, IsProved}
+use Rattle.pcc_gate.proofs.Conditions.{vc_of-encodes}
+use Rattle.pcc_gate.proofs.Exactly.{accepted-none, good-none, passes-by, after-read, after-all}
 use Rattle.pcc_gate.proofs.WrittenOut.{accepted-written, written-accepted}
 use Rattle.policy_set.specs.Views.{PolicyView, IsPolicy}
-use Rattle.proof_container.specs.Contents.{Contents, roots}
+use Rattle.proof_container.specs.Contents.{Contents}
 use Rattle.proof_container.specs.Views.{contents_of}
 use Rattle.proof_container.specs.declared.container.Container.{Container}
 use Rattle.pcc_gate.specs.declared.fault.GateFault.{GateFault}
 use Rattle.pcc_gate.specs.declared.passing.Passed.{Passed}
 use Rattle.pcc_gate.specs.declared.refusal.Refusal.{Refusal}
 use Rattle.pcc_gate.specs.declared.refusal.Refusal.TheVariants as refusal
-use Rattle.pcc_gate.specs.First.{vc_of, lemma_unproved, proves, refused_by, first_lemmas, first_proof, first_after, first_of_lemmas, first_code, first_shape, first_front, front_refusal, lemma_refusal, first_refusal}
+use Rattle.pcc_gate.specs.First.{vc_of, lemma_unproved, proves, first_some, refused_unless, weight_found, unproved_found, shape_found, from_code, front_found, proof_found, after_front, lemmas_found, front_refusal, lemma_refusal, first_refusal}
 use Rattle.pcc_gate.specs.declared.fault.GateFault.TheVariants as fault
 use Rattle.hereditary_subst.specs.declared.exhausted.Exhausted.{Exhausted}
 use Rattle.hereditary_subst.specs.declared.exhausted.Exhausted.TheVariants as exhausted
 use Rattle.pcc_gate.specs.Shortages.{gate_shortage_of}
 use Rattle.pcc_gate.specs.Answers.{IsHeld, IsFrontAnswer, HasGoodLemmas, IsLemmaFrontAnswer, IsGateAnswer}
-use Rattle.pcc_gate.specs.Passing.{AreLow, Passes, PassesUntyped}
-use Rattle.pcc_gate.specs.Inside.Stages.{Refuses, RefusesBytes, IsRead}
+use Rattle.pcc_gate.specs.Refusals.{AreLow}
+use Rattle.pcc_gate.specs.Clauses.{HasCode}
+use Rattle.pcc_gate.specs.Passing.{Passes, PassesUntyped}
+use Rattle.pcc_gate.specs.Inside.Stages.{IsRefusalOf, Refuses, RefusesBytes, IsRead}
 use Rattle.pcc_gate.specs.Inside.Passed.{IsRest, IsRestAnswer, IsUntyped, CountsUntyped, IsPassedAnswer}
-use Rattle.pcc_gate.proofs.Searches.{within, none_low, none_forms, none_formulas, none_proved}
-use Rattle.pcc_gate.proofs.FirstFront.{front-none, after_policy, after_all}
-use Rattle.pcc_gate.proofs.Refusing.{refuses-into}
+use Rattle.pcc_gate.proofs.Searches.{within, none_proved}
+use Rattle.pcc_gate.proofs.Deciding.{first_some-next, first_some-front}
+use Rattle.pcc_gate.proofs.ByClause.{ByClause, by-clause, untyped, untyped-all, from-proof}
+use Rattle.pcc_gate.proofs.Refusing.{refusal-here, refusal-next}
 use Rattle.lf_signature.specs.declared.editions.WordSignature.{WordSignature}
 use Rattle.vcgen.proofs.Encodings.{forms-wider}
 use Rattle.proof_container.specs.Versions.{profile_of, signature_of}
@@ -54,63 +58,41 @@ use Rattle.pcc_gate.specs.Safe.{ReturnsInBound}
 use Rattle.pcc_gate.specs.Views.{AcceptedView}
 
 module _ (policy : PolicyView) (bytes : List ℕ) where
-  read-first : (c : Contents) → IsRead policy bytes c → (next : Contents → List Insn → Option Refusal) →
-      first_front policy bytes next ≡ first_code c (decoded_code (profile_of c.version) c.code)
-      (next c)
-  read-first c r next =
-      after_policy policy bytes next c
-      (record { held = record { size = r.size; container = r.encoded }; named = r.named })
+  has-rest : (c : Contents) → IsRead policy bytes c → (p : Passed) → IsRest c p → HasCode bytes c p.cut.code
+  has-rest c r p k = record { container = r.encoded; encoded = k.encoded; code = k.is }
 
   rest-passes : (c : Contents) → IsRead policy bytes c → (p : Passed) → IsRest c p → Passes policy bytes c p.cut.code p.cut.marks
-  rest-passes c r p k = record {
-    size = r.size;
-    container = r.encoded;
-    named = r.named;
-    encoded = k.encoded;
-    code = k.is;
-    heights = none_low (roots c) k.shaped.low;
-    forms = none_forms (signature_of c.version) c.bound c.invs 0 k.shaped.forms;
-    lemma_forms = none_formulas (signature_of c.version) c.lemmas k.shaped.lemma_forms;
-    annotated = k.shaped.made.flags;
-    cut = k.shaped.made.cuts;
-    unfolded = k.shaped.short;
-  }
+  rest-passes c r p k =
+      passes-by policy bytes c p.cut.code p.cut.marks r.size r.named (has-rest c r p k) k.shaped.made.flags k.shaped.none
 
   -- what passes clauses 4 and 5 passes 1 to 5
   rest-untyped : (c : Contents) → IsRead policy bytes c → IsUntyped c → PassesUntyped policy bytes
-  rest-untyped c r u = record {
-    contents = c;
-    insns = u.insns;
-    size = r.size;
-    container = r.encoded;
-    named = r.named;
-    encoded = u.encoded;
-    code = u.code;
-    heights = u.heights;
-  }
+  rest-untyped c r u =
+      let h : HasCode bytes c u.insns = record { container = r.encoded; encoded = u.encoded; code = u.code } in
+      untyped-all h policy r.size r.named u.heights
 
   pub rest-passed : (c : Contents) → IsRead policy bytes c → (a : Result Passed GateFault)
       → IsRestAnswer c a → CountsUntyped c a → IsPassedAnswer policy bytes a
   rest-passed c r (Ok p) k t = (subst (λ x. Passes policy bytes x p.cut.code p.cut.marks) (sym k.contents) (rest-passes c r p k), k.held)
-  rest-passed c r (Err (fault.Refused x)) k t = λ next. read-first c r next ∙ k (next c)
+  rest-passed c r (Err (fault.Refused x)) k t = λ more. after-read policy bytes more c r ∙ k (more c)
   rest-passed c r (Err fault.Memory) k t = r.size
   rest-passed c r (Err fault.Results) k t = rest-untyped c r (t refl)
 
 -- clause 4 passes
 pub code-refuses : (c : Contents) (code : List Insn)
     → decoded_code (profile_of c.version) c.code ≡ Ok code → (e : GateFault)
-    → Refuses (first_shape (signature_of c.version) c code) e
-    → Refuses (first_code c (decoded_code (profile_of c.version) c.code)) e
-code-refuses c code h e k =
-    refuses-into (first_code c (decoded_code (profile_of c.version) c.code))
-    (first_shape (signature_of c.version) c code) (λ next. next code)
-    (λ next. ap (λ r. first_code c r next) h) e k
+    → IsRefusalOf (first_some (shape_found (signature_of c.version) c code)) e
+    → Refuses (from_code c (decoded_code (profile_of c.version) c.code)) e
+code-refuses c code h (fault.Refused r) k =
+    λ more. ap (λ z. first_some (from_code c z more)) h
+    ∙ first_some-front (shape_found (signature_of c.version) c code) (more code) r k
+code-refuses c code h fault.Memory k = tt
+code-refuses c code h fault.Results k = tt
 
 -- what ran out says nothing
-pub shortage-refuses : {N : Type 0} (first : N → Option Refusal) (what : Exhausted) →
-    Refuses first (gate_shortage_of what)
-shortage-refuses first exhausted.Memory = tt
-shortage-refuses first exhausted.Results = tt
+pub shortage-refuses : (found : Option Refusal) (what : Exhausted) → IsRefusalOf found (gate_shortage_of what)
+shortage-refuses found exhausted.Memory = tt
+shortage-refuses found exhausted.Results = tt
 
 -- what ran out is `Results` only where it was there
 pub shortage-results : (what : Exhausted) → gate_shortage_of what ≡ fault.Results → what ≡ exhausted.Results
@@ -127,138 +109,125 @@ front-held policy bytes (Err e) k = tt
 pub front-answer : (policy : PolicyView) (bytes : List ℕ) (a : Result Passed GateFault)
     → IsPassedAnswer policy bytes a → IsFrontAnswer policy bytes a
 unfolding front_refusal
-front-answer policy bytes (Ok p) k = (k.0, front-none policy bytes (λ c code. None) (contents_of p.container) p.cut.code p.cut.marks k.0 refl)
-front-answer policy bytes (Err (fault.Refused r)) k = k (λ c code. None)
+front-answer policy bytes (Ok p) k =
+    (k.0, after-all policy bytes (λ c code. []) (contents_of p.container) p.cut.code p.cut.marks k.0)
+front-answer policy bytes (Err (fault.Refused r)) k = k (λ c code. [])
 front-answer policy bytes (Err fault.Memory) k = k
 front-answer policy bytes (Err fault.Results) k = k
 
 module _ (policy : PolicyView) (bytes : List ℕ) (c : Contents) (code : List Insn)
     (marks : List Bool) (p : Passes policy bytes c code marks) where
-  -- what passes the clauses before the proof goes on
-  front-next : (next : Contents → List Insn → Option Refusal) → first_front policy bytes next ≡ next c code
-  front-next next = after_all policy bytes next c code marks p
+  k : ByClause policy bytes c code marks
+  k = by-clause p
 
-  -- and passes 1 to 5
-  untyped : PassesUntyped policy bytes
-  untyped = record {
-    contents = c;
-    insns = code;
-    size = p.size;
-    container = p.container;
-    named = p.named;
-    encoded = p.encoded;
-    code = p.code;
-    heights = p.heights;
-  }
+  -- what passes the clauses before the proof goes on
+  front-next : (more : Contents → List Insn → List (Option Refusal))
+      → first_some (front_found policy bytes more) ≡ first_some (more c code)
+  front-next more = after-all policy bytes more c code marks p
 
   abbrev sig : WordSignature
   sig = signature_of c.version
 
-  pub gate-refused : (e : GateFault) → Refuses (λ vc. first_proof sig c.lemmas vc c.proof) e
+  abbrev vc : Tree
+  vc = vc_of policy c.bound code c.invs
+
+  -- what is found of the proof is found of the bytes
+  proof-refused : (e : GateFault) → IsRefusalOf (first_some (proof_found sig c.lemmas vc c.proof)) e
       → IsGateAnswer policy bytes (Err e)
   unfolding first_refusal
-  gate-refused (fault.Refused r) h = front-next (first_after policy) ∙ h (vc_of policy c.bound code c.invs)
-  gate-refused fault.Memory h = p.size
-  gate-refused fault.Results h = untyped
+  proof-refused (fault.Refused r) h = front-next (after_front policy) ∙ h
+  proof-refused fault.Memory h = p.all.0
+  proof-refused fault.Results h = untyped p
+
+  pub gate-refused : (e : GateFault) → Refuses (λ vc. proof_found sig c.lemmas vc c.proof) e
+      → IsGateAnswer policy bytes (Err e)
+  gate-refused (fault.Refused r) h = proof-refused (fault.Refused r) (h vc)
+  gate-refused fault.Memory h = proof-refused fault.Memory tt
+  gate-refused fault.Results h = proof-refused fault.Results tt
 
   module _ (proof : Tree) (given : c.proof ≡ Some proof)
       (weight : proof_weight sig c.lemmas proof ≤ MAX_WEIGHT) where
-    abbrev judged : Tree → Option Refusal
-    judged vc = cond (proves sig c.lemmas proof vc) None (Some refusal.NotProof)
+    abbrev judged : Option Refusal
+    judged = refused_unless (proves sig c.lemmas proof vc) refusal.NotProof
 
     -- what comes behind clause 10
-    abbrev behind : Tree → Option Refusal
-    behind vc = refused_by refusal.LemmaNotProof (lemma_unproved sig c.lemmas) (judged vc)
+    light : first_some (proof_found sig c.lemmas vc c.proof) ≡ first_some (unproved_found sig c.lemmas ∷ judged ∷ [])
+    light =
+        ap (λ o. first_some (proof_found sig c.lemmas vc o)) given
+        ∙ first_some-next (weight_found (proof_weight sig c.lemmas proof)) (unproved_found sig c.lemmas ∷ judged ∷ [])
+        (within MAX_WEIGHT (proof_weight sig c.lemmas proof) _ None weight)
 
-    light : (vc : Tree) → first_proof sig c.lemmas vc c.proof ≡ behind vc
-    light vc =
-        let w : ℕ = proof_weight sig c.lemmas proof in
-        ap (first_proof sig c.lemmas vc) given
-        ∙ within MAX_WEIGHT w (Some (refusal.ProofWeight (capped w))) (behind vc) weight
-
-    pub gate-unproved : (e : GateFault) →
-        Refuses (refused_by refusal.LemmaNotProof (lemma_unproved sig c.lemmas)) e →
-        IsGateAnswer policy bytes (Err e)
-    unfolding first_refusal
-    gate-unproved (fault.Refused r) h =
-        let vc : Tree = vc_of policy c.bound code c.invs in
-        front-next (first_after policy) ∙ light vc ∙ h (judged vc)
-    gate-unproved fault.Memory h = p.size
-    gate-unproved fault.Results h = untyped
+    pub gate-unproved : (e : GateFault) → IsRefusalOf (unproved_found sig c.lemmas) e → IsGateAnswer policy bytes (Err e)
+    gate-unproved e h =
+        proof-refused e
+        (subst (λ o. IsRefusalOf o e) (sym light) (refusal-here (unproved_found sig c.lemmas) (judged ∷ []) e h))
 
     module _ (lemmas : lemma_unproved sig c.lemmas ≡ None) where
       -- what comes behind clause 14
-      last : (vc : Tree) → first_proof sig c.lemmas vc c.proof ≡ judged vc
-      last vc = light vc ∙ ap (λ o. refused_by refusal.LemmaNotProof o (judged vc)) lemmas
+      last : first_some (proof_found sig c.lemmas vc c.proof) ≡ first_some (judged ∷ [])
+      last =
+          light
+          ∙ first_some-next (unproved_found sig c.lemmas) (judged ∷ []) (ap (option_map refusal.LemmaNotProof) lemmas)
 
       pub gate-judged : (e : GateFault) →
           IsProofAnswer sig c.lemmas policy c.bound code c.invs proof (Err e) →
           IsGateAnswer policy bytes (Err e)
-      unfolding first_refusal
       gate-judged (fault.Refused r) h =
-          front-next (first_after policy) ∙ last (vc_of policy c.bound code c.invs)
-          ∙ ap (λ b. cond b None (Some refusal.NotProof)) h.0 ∙ ap Some (sym h.1)
-      gate-judged fault.Memory h = p.size
-      gate-judged fault.Results h = untyped
+          proof-refused (fault.Refused r)
+          (last ∙ ap (λ b. first_some (refused_unless b refusal.NotProof ∷ [])) h.0 ∙ ap Some (sym h.1))
+      gate-judged fault.Memory h = p.all.0
+      gate-judged fault.Results h = untyped p
 
-      pub gate-none : proves sig c.lemmas proof (vc_of policy c.bound code c.invs) ≡ true →
-          first_refusal policy bytes ≡ None
+      pub gate-none : proves sig c.lemmas proof vc ≡ true → first_refusal policy bytes ≡ None
       unfolding first_refusal
       gate-none h =
-          front-next (first_after policy) ∙ last (vc_of policy c.bound code c.invs)
-          ∙ ap (λ b. cond b None (Some refusal.NotProof)) h
+          front-next (after_front policy) ∙ last
+          ∙ ap (λ b. first_some (refused_unless b refusal.NotProof ∷ [])) h
 
-      pub gate-accepts : proves sig c.lemmas proof (vc_of policy c.bound code c.invs) ≡ true →
-          Accepts policy bytes c code marks
+      pub gate-accepts : proves sig c.lemmas proof vc ≡ true → Accepts policy bytes c code marks
       gate-accepts h =
-          let vc : Tree = vc_of policy c.bound code c.invs in
-          record {
-            passes = p;
+          from-proof p
+          (record {
             proof = proof;
             vc = vc;
             given = given;
             weight = weight;
             lemmas = none_proved sig c.lemmas lemmas;
-            condition = vc_of-encodes sig policy c.bound code c.invs p.forms;
+            condition = vc_of-encodes sig policy c.bound code c.invs k.forms;
             proved =
                 checks_follows (with_lemmas (declared sig) (formulas_of c.lemmas)) proof [] (pf vc) h;
-          }
+          })
 
   -- the lemmas alone
-  pub lemmas-refused : (e : GateFault) →
-      Refuses (first_lemmas sig c.lemmas (lemmas_weight sig c.lemmas)) e →
-      IsLemmaFrontAnswer policy bytes (Err e)
+  lemmas-refused : (e : GateFault) → IsRefusalOf (first_some (lemmas_found sig c.lemmas)) e
+      → IsLemmaFrontAnswer policy bytes (Err e)
   unfolding lemma_refusal
-  lemmas-refused (fault.Refused r) h = front-next first_of_lemmas ∙ h None
-  lemmas-refused fault.Memory h = p.size
-  lemmas-refused fault.Results h = untyped
+  lemmas-refused (fault.Refused r) h = front-next (λ k insns. lemmas_found (signature_of k.version) k.lemmas) ∙ h
+  lemmas-refused fault.Memory h = p.all.0
+  lemmas-refused fault.Results h = untyped p
+
+  pub lemmas-heavy : (e : GateFault) → IsRefusalOf (weight_found (lemmas_weight sig c.lemmas)) e
+      → IsLemmaFrontAnswer policy bytes (Err e)
+  lemmas-heavy e h =
+      lemmas-refused e
+      (refusal-here (weight_found (lemmas_weight sig c.lemmas)) (unproved_found sig c.lemmas ∷ []) e h)
 
   module _ (weight : lemmas_weight sig c.lemmas ≤ MAX_WEIGHT) where
-    lemmas-light : (next : Option Refusal) →
-        first_lemmas sig c.lemmas (lemmas_weight sig c.lemmas) next
-        ≡ refused_by refusal.LemmaNotProof (lemma_unproved sig c.lemmas) next
-    lemmas-light next =
-        let w : ℕ = lemmas_weight sig c.lemmas in
-        within MAX_WEIGHT w (Some (refusal.ProofWeight (capped w)))
-        (refused_by refusal.LemmaNotProof (lemma_unproved sig c.lemmas) next) weight
+    lemmas-light : weight_found (lemmas_weight sig c.lemmas) ≡ None
+    lemmas-light = within MAX_WEIGHT (lemmas_weight sig c.lemmas) _ None weight
 
-    pub lemmas-unproved : (e : GateFault) →
-        Refuses (refused_by refusal.LemmaNotProof (lemma_unproved sig c.lemmas)) e →
+    pub lemmas-unproved : (e : GateFault) → IsRefusalOf (unproved_found sig c.lemmas) e →
         IsLemmaFrontAnswer policy bytes (Err e)
-    unfolding lemma_refusal
-    lemmas-unproved (fault.Refused r) h = front-next first_of_lemmas ∙ lemmas-light None ∙ h None
-    lemmas-unproved fault.Memory h = p.size
-    lemmas-unproved fault.Results h = untyped
+    lemmas-unproved e h =
+        lemmas-refused e
+        (refusal-next (weight_found (lemmas_weight sig c.lemmas)) (unproved_found sig c.lemmas ∷ []) lemmas-light e
+        (refusal-here (unproved_found sig c.lemmas) [] e h))
 
     pub lemmas-good : lemma_unproved sig c.lemmas ≡ None →
         Passes policy bytes c code marks × HasGoodLemmas c × (lemma_refusal policy bytes ≡ None)
-    unfolding lemma_refusal
-    lemmas-good h = (
-      p,
-      record { weight = weight; proved = none_proved sig c.lemmas h },
-      front-next first_of_lemmas ∙ lemmas-light None
-          ∙ ap (λ o. refused_by refusal.LemmaNotProof o None) h,
-    )
+    lemmas-good h =
+        let good : HasGoodLemmas c = record { weight = weight; proved = none_proved sig c.lemmas h } in
+        (p, good, good-none policy bytes c code marks p good)
 
 -- ---- a container, its signature and its lemmas under names of their own
 
@@ -276,7 +245,7 @@ module _ (k : Container) (s : WordSignature) (is : s ≡ signature_of k.version)
         subst (λ z. AreFormulas (declared z) (formulas_of (lemmas_in k.table ls))) (sym is)
         (subst
         (λ l. AreFormulas (declared (signature_of k.version)) (formulas_of (lemmas_in k.table l)))
-        (sym are) p.lemma_forms)
+        (sym are) (by-clause p).lemma_forms)
 
     pub judge-unfound : (e : GateFault) → IsProofFound s k.table ls k.proof (Err e) →
         IsGateAnswer policy bytes (Err e)
@@ -285,21 +254,21 @@ module _ (k : Container) (s : WordSignature) (is : s ≡ signature_of k.version)
         (named (λ z l. IsProofFound z k.table l k.proof (Err e)) h)
 
     -- the lemmas alone
-    pub alone-heavy : (e : GateFault) → IsLemmaWeight s (lemmas_in k.table ls) (Err e) →
+    pub alone-heavy : (e : GateFault) → IsRefusalOf (weight_found (lemmas_weight s (lemmas_in k.table ls))) e →
         IsLemmaFrontAnswer policy bytes (Err e)
     alone-heavy e h =
-        lemmas-refused policy bytes (contents_of k) code marks p e
-        (named (λ z l. IsLemmaWeight z (lemmas_in k.table l) (Err e)) h)
+        lemmas-heavy policy bytes (contents_of k) code marks p e
+        (named (λ z l. IsRefusalOf (weight_found (lemmas_weight z (lemmas_in k.table l))) e) h)
 
     module _ (light : lemmas_weight s (lemmas_in k.table ls) ≤ MAX_WEIGHT) where
       alone : lemmas_weight (signature_of k.version) (lemmas_in k.table k.lemmas.items) ≤ MAX_WEIGHT
       alone = named (λ z l. lemmas_weight z (lemmas_in k.table l) ≤ MAX_WEIGHT) light
 
-      pub alone-unproved : (e : GateFault) → AreLemmasProved s (lemmas_in k.table ls) (Err e) →
+      pub alone-unproved : (e : GateFault) → IsRefusalOf (unproved_found s (lemmas_in k.table ls)) e →
           IsLemmaFrontAnswer policy bytes (Err e)
       alone-unproved e h =
           lemmas-unproved policy bytes (contents_of k) code marks p alone e
-          (named (λ z l. AreLemmasProved z (lemmas_in k.table l) (Err e)) h)
+          (named (λ z l. IsRefusalOf (unproved_found z (lemmas_in k.table l)) e) h)
 
       pub alone-good : lemma_unproved s (lemmas_in k.table ls) ≡ None →
           Passes policy bytes (contents_of k) code marks × HasGoodLemmas (contents_of k)
@@ -319,18 +288,18 @@ module _ (k : Container) (s : WordSignature) (is : s ≡ signature_of k.version)
           ≤ MAX_WEIGHT
       low = named (λ z l. proof_weight z (lemmas_in k.table l) tree ≤ MAX_WEIGHT) found.2
 
-      pub judge-unproved : (e : GateFault) → AreLemmasProved s (lemmas_in k.table ls) (Err e) →
+      pub judge-unproved : (e : GateFault) → IsRefusalOf (unproved_found s (lemmas_in k.table ls)) e →
           IsGateAnswer policy bytes (Err e)
       judge-unproved e h =
           gate-unproved policy bytes (contents_of k) code marks p tree given low e
-          (named (λ z l. AreLemmasProved z (lemmas_in k.table l) (Err e)) h)
+          (named (λ z l. IsRefusalOf (unproved_found z (lemmas_in k.table l)) e) h)
 
       module _ (lemmas : lemma_unproved s (lemmas_in k.table ls) ≡ None) where
         none : lemma_unproved (signature_of k.version) (lemmas_in k.table k.lemmas.items) ≡ None
         none = named (λ z l. lemma_unproved z (lemmas_in k.table l) ≡ None) lemmas
 
-        abbrev vc : Tree
-        vc = vc_of policy k.bound code (id_trees k.table k.invs.items)
+        abbrev told : Tree
+        told = vc_of policy k.bound code (id_trees k.table k.invs.items)
 
         pub judge-refused : (e : GateFault) →
             IsProofAnswer s (lemmas_in k.table ls) policy k.bound code
@@ -342,17 +311,17 @@ module _ (k : Container) (s : WordSignature) (is : s ≡ signature_of k.version)
             (id_trees k.table k.invs.items) tree (Err e))
             h)
 
-        pub judge-none : proves s (lemmas_in k.table ls) tree vc ≡ true →
+        pub judge-none : proves s (lemmas_in k.table ls) tree told ≡ true →
             first_refusal policy bytes ≡ None
         judge-none h =
             gate-none policy bytes (contents_of k) code marks p tree given low none
-            (named (λ z l. proves z (lemmas_in k.table l) tree vc ≡ true) h)
+            (named (λ z l. proves z (lemmas_in k.table l) tree told ≡ true) h)
 
-        pub judge-accepts : proves s (lemmas_in k.table ls) tree vc ≡ true →
+        pub judge-accepts : proves s (lemmas_in k.table ls) tree told ≡ true →
             Accepts policy bytes (contents_of k) code marks
         judge-accepts h =
             gate-accepts policy bytes (contents_of k) code marks p tree given low none
-            (named (λ z l. proves z (lemmas_in k.table l) tree vc ≡ true) h)
+            (named (λ z l. proves z (lemmas_in k.table l) tree told ≡ true) h)
 
 -- what is said of the trees of a later table is said of the earlier one's
 pub answer-earlier : (s : WordSignature) (policy : PolicyView) (bound : Option ℕ) (code : List Insn)
@@ -371,7 +340,7 @@ answer-earlier s policy bound code t u ls ps id r x known invs one h =
 pub front-refused : (policy : PolicyView) (bytes : List ℕ) (e : GateFault)
     → RefusesBytes policy bytes e → IsGateAnswer policy bytes (Err e)
 unfolding first_refusal
-front-refused policy bytes (fault.Refused r) h = h (first_after policy)
+front-refused policy bytes (fault.Refused r) h = h (after_front policy)
 front-refused policy bytes fault.Memory h = h
 front-refused policy bytes fault.Results h = h
 
@@ -379,7 +348,7 @@ front-refused policy bytes fault.Results h = h
 pub lemma-front-refused : (policy : PolicyView) (bytes : List ℕ) (e : GateFault) →
     RefusesBytes policy bytes e → IsLemmaFrontAnswer policy bytes (Err e)
 unfolding lemma_refusal
-lemma-front-refused policy bytes (fault.Refused r) h = h first_of_lemmas
+lemma-front-refused policy bytes (fault.Refused r) h = h (λ k insns. lemmas_found (signature_of k.version) k.lemmas)
 lemma-front-refused policy bytes fault.Memory h = h
 lemma-front-refused policy bytes fault.Results h = h
 
@@ -399,13 +368,13 @@ proved-by sound policy kept bytes c cut t u ps grown known is a =
     let same : c.invs ≡ id_trees u ps = is ∙ trees-same t u ps grown known in
     record {
       policy_is = kept;
-      fits = bound-fits c.version c.bound a.passes.container.contents.bound;
-      code = a.passes.code;
+      fits = bound-fits c.version c.bound a.passes.has.container.contents.bound;
+      code = a.passes.has.code;
       flags = subst (λ (l : List (ℕ × Tree)). AreFlags (map (λ p. p.0) l) (length cut.code) cut.marks) same a.passes.annotated;
-      cuts = a.passes.cut;
+      cuts = (by-clause a.passes).cut;
       known = known-more t u ps grown known;
       forms = subst (λ l. AreForms Longest c.bound l) same
-          (forms-wider (signature_of c.version) c.bound c.invs a.passes.forms);
+          (forms-wider (signature_of c.version) c.bound c.invs (by-clause a.passes).forms);
       safe = accepted-safe sound policy bytes c cut.code cut.marks kept a;
       returns = accepted-returns sound policy bytes c cut.code cut.marks kept a;
       valid =

@@ -14,18 +14,17 @@ use Rattle.alpha_cfg.specs.CodeBytes.{EncodesCode}
 use Rattle.alpha_cfg.specs.CodeDecoding.{decoded_code}
 use Rattle.alpha_cfg.specs.Deciding.{flags_of}
 use Rattle.alpha_cfg.specs.Flow.{IsCode}
-use Rattle.alpha_cfg.proofs.Deciding.{uncut_none}
 use Rattle.alpha_cfg.proofs.Readings.{decoded_code-ok, IsDecoded-IsCodeAnswer}
 use Rattle.formula_tree.specs.Formulas.{Exp, EReg, EVar, ELit, EOp, ESel, MVar, Form, FTrue, FFalse, FRel, FRd, FWr, FAnd, FImp, FAllm}
 use Rattle.lf_terms.specs.Encoding.{form_encoding}
 use Rattle.lf_terms.specs.ProofTerms.{tt_i, and_i, and_l, and_r, imp_i, imp_e, all_i, allm_i}
-use Rattle.lf_encode.specs.Contexts.{machine_context, machine_names, sort_types, IsFormIn}
+use Rattle.lf_encode.specs.Contexts.{machine_context, machine_names, IsFormIn}
 use Rattle.lf_signature.specs.Constants.{declared, constant_types, the_rules}
-use Rattle.lf_signature.specs.Terms.{form, pf}
+use Rattle.lf_signature.specs.Terms.{pf}
 use Rattle.lf_signature.specs.Decide.{checks_of}
 use Rattle.lf_signature.specs.Laws.Decided.{checks_follows}
 use Rattle.lf_signature.specs.Typing.{Checks}
-use Rattle.lf_lemmas.specs.Lemmas.{with_lemmas, AreFormulas}
+use Rattle.lf_lemmas.specs.Lemmas.{with_lemmas}
 use Rattle.policy_set.specs.declared.kind.PolicyKind.TheVariants.{Tag}
 use Rattle.policy_set.specs.Views.{built_in}
 use Rattle.proof_container.specs.Contents.{Contents, roots}
@@ -37,14 +36,17 @@ use Rattle.proof_container.proofs.Written.{length-encoding_of}
 use Rattle.term_table.specs.Tree.{Tree, Const, Var, Lemma}
 use Rattle.vcgen.specs.Assignments.{unchanged}
 use Rattle.vcgen.specs.Conditions.{alls, condition}
-use Rattle.vcgen.specs.Encoded.{AreForms, annotated}
-use Rattle.pcc_gate.specs.First.{too_high}
+use Rattle.vcgen.specs.Encoded.{annotated}
+use Rattle.pcc_gate.specs.First.{first_some, shape_found}
+use Rattle.pcc_gate.specs.Clauses.{HasCode}
+use Rattle.pcc_gate.specs.Passing.{Passes}
 use Rattle.pcc_gate.specs.Weights.{proof_weight}
 use Rattle.pcc_gate.specs.Witness.{loop_code, LoopIsAccepted}
-use Rattle.pcc_gate.proofs.Searches.{none_low}
 use Rattle.pcc_gate.proofs.Ready.{are_ready, all_ready, bytes_from, all_nodes, few_of, all_fields_few}
 use Rattle.pcc_gate.proofs.CodeBytes.{code_decided}
-use Rattle.pcc_gate.proofs.FirstFront.{annotated_flags}
+use Rattle.pcc_gate.proofs.Flags.{annotated_flags}
+use Rattle.pcc_gate.proofs.ByClause.{from-proof}
+use Rattle.pcc_gate.proofs.Exactly.{passes-by}
 use Rattle.lf_signature.specs.declared.editions.WordSignature.TheVariants.{Sigma1}
 use Rattle.lf_signature.specs.declared.editions.WordSignature.{WordSignature}
 use Rattle.word_ops.specs.declared.Profile.{Profile}
@@ -259,17 +261,6 @@ encoded_in p decoded = encoded_as p code_bytes loop_code refl (omega arith) (ome
 encoded : EncodesCode One code_bytes loop_code × IsCode loop_code
 encoded = encoded_in One decoded
 
-none_high : too_high (roots contents) ≡ None
-unfolding whole_proof
-none_high = refl
-
-inv_formed : checks_of (declared Sigma1) inv_term (sort_types machine_context) form ≡ true
-unfolding constant_types the_rules machine_context
-inv_formed = refl
-
-forms : AreForms Sigma1 None ((2, inv_term) ∷ [])
-forms = (checks_follows (declared Sigma1) inv_term (sort_types machine_context) form inv_formed, tt)
-
 abbrev pub said : Form
 said = FAnd (closed entry_part) (FAnd (closed loop_part) FTrue)
 
@@ -290,9 +281,6 @@ none_added s = λ i c. each c i
     each (Lemma n) = refl
     each c = refl
 
-no_lemmas : AreFormulas (declared Sigma1) []
-no_lemmas n F e = absurd (none-some F e)
-
 light : nat_le (proof_weight Sigma1 [] whole_proof) 1048576 ≡ true
 unfolding whole_proof
 light = refl
@@ -301,26 +289,30 @@ pub over : IsFormIn machine_context 31 invariant
 unfolding machine_context
 over = ((omega arith, omega arith), (omega arith, omega arith))
 
+-- nothing is found of them
+none : first_some (shape_found Sigma1 contents loop_code) ≡ None
+unfolding whole_proof constant_types the_rules machine_context
+none = refl
+
+held : HasCode (encoding_of contents) contents loop_code
+held = record {
+  container = record { contents = is_contents; encoded = refl };
+  encoded = encoded.0;
+  code = encoded.1;
+}
+
+passes : Passes (built_in Tag) (encoding_of contents) contents loop_code marks
+passes =
+    passes-by (built_in Tag) (encoding_of contents) contents loop_code marks size (Tag, refl, refl) held
+    (annotated_flags One contents loop_code is_contents encoded.0) none
+
 pub loop_is_accepted : LoopIsAccepted
 unfolding machine_names machine_context
 loop_is_accepted = record {
   bytes = encoding_of contents;
   contents = contents;
   marks = marks;
-  accepts = record {
-    passes = record {
-      size = size;
-      container = record { contents = is_contents; encoded = refl };
-      named = (Tag, refl, refl);
-      encoded = encoded.0;
-      code = encoded.1;
-      heights = none_low (roots contents) none_high;
-      forms = forms;
-      lemma_forms = no_lemmas;
-      annotated = annotated_flags One contents loop_code is_contents encoded.0;
-      cut = uncut_none loop_code marks encoded.1 refl;
-      unfolded = omega arith;
-    };
+  accepts = from-proof passes (record {
     proof = whole_proof;
     vc = form_encoding said;
     given = refl;
@@ -330,5 +322,5 @@ loop_is_accepted = record {
     proved =
         subst (λ sig. Checks sig [] whole_proof (pf (form_encoding said))) (sym (none_added Sigma1))
         (checks_follows (declared Sigma1) whole_proof [] (pf (form_encoding said)) checked);
-  };
+  });
 }

@@ -34,7 +34,9 @@ use Rattle.lf_lemmas.proofs.WordLemmas.{words_admit}
 use Rattle.proof_container.specs.Contents.{Contents, lemma_roots, one_or_none, roots}
 use Rattle.proof_container.specs.Encoding.{AreTerms}
 use Rattle.proof_container.specs.Versions.{signature_of}
+use Rattle.pcc_gate.specs.Passing.{Passes}
 use Rattle.pcc_gate.specs.Accepted.{Accepts}
+use Rattle.pcc_gate.proofs.ByClause.{by-clause, proof-by-clause, from-proof}
 use Rattle.pcc_gate.specs.WrittenOut.{AcceptsWrittenOut}
 
 -- ---- proofs that are written out fit
@@ -265,29 +267,33 @@ contents_fit c h =
 
 module _ (policy : PolicyView) (bytes : List ℕ) (c : Contents) (code : List Insn)
     (marks : List Bool) where
+  fit : Passes policy bytes c code marks → AllFit c.lemmas
+  fit p = contents_fit c p.has.container.contents.terms
+
   pub accepted-written : Accepts policy bytes c code marks →
       AcceptsWrittenOut policy bytes c code marks
-  accepted-written a = record {
-    passes = a.passes;
-    proof = a.proof;
-    vc = a.vc;
-    given = a.given;
-    weight = a.weight;
-    condition = a.condition;
-    written =
-        written (signature_of c.version) c.lemmas a.passes.lemma_forms
-        (contents_fit c a.passes.container.contents.terms) a.proof a.vc
-        (record { each = a.lemmas; last = a.proved });
-  }
+  accepted-written a =
+      let p = proof-by-clause a in
+      record {
+        passes = a.passes;
+        proof = p.proof;
+        vc = p.vc;
+        given = p.given;
+        weight = p.weight;
+        condition = p.condition;
+        written =
+            written (signature_of c.version) c.lemmas (by-clause a.passes).lemma_forms (fit a.passes) p.proof p.vc
+            (record { each = p.lemmas; last = p.proved });
+      }
 
   pub written-accepted : AcceptsWrittenOut policy bytes c code marks →
       Accepts policy bytes c code marks
   written-accepted a =
       let h =
-      unwritten (signature_of c.version) c.lemmas a.passes.lemma_forms
-      (contents_fit c a.passes.container.contents.terms) a.proof a.vc a.written in
-      record {
-        passes = a.passes;
+      unwritten (signature_of c.version) c.lemmas (by-clause a.passes).lemma_forms (fit a.passes) a.proof a.vc
+      a.written in
+      from-proof a.passes
+      (record {
         proof = a.proof;
         vc = a.vc;
         given = a.given;
@@ -295,4 +301,4 @@ module _ (policy : PolicyView) (bytes : List ℕ) (c : Contents) (code : List In
         lemmas = h.each;
         condition = a.condition;
         proved = h.last;
-      }
+      })

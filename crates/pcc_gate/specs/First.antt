@@ -1,6 +1,7 @@
--- The first clause that fails, with the values that its line has. The tests stand in their order;
--- `laws` joins them to the clauses, and each refusal to what it means.
-use Rattle.std.specs.Prelude.{ℕ, suc, Bool, List, [], ◌∷◌, map, length, nat_lt, if◌then◌else◌, Option, Some, None, Result, Ok, Err}
+-- The first clause that fails, with the values that its line has, as a function: what each clause finds, in their order (`Clauses`).
+-- `laws` joins the two.
+use Rattle.std.specs.Prelude.{ℕ, suc, Bool, List, [], ◌∷◌, map, length, nat_lt, ◌++◌, if◌then◌else◌, Option, Some, None, Result, Ok, Err}
+use Rattle.std.specs.Option.{option_map, option_or}
 use Rattle.alpha_words.specs.declared.insn.Insn.{Insn}
 use Rattle.alpha_cfg.specs.CodeDecoding.{decoded_code}
 use Rattle.alpha_cfg.specs.Cuts.{unfolded_of}
@@ -83,78 +84,108 @@ lemma_unproved s lemmas =
 
 -- ---- the clauses
 
--- the refusal of a value that was found, else what comes after
-abbrev pub refused_by : {A : Type 0} → (A → Refusal) → Option A → Option Refusal → Option Refusal
-refused_by refused (Some x) next = Some (refused x)
-refused_by refused None next = next
+-- the first of these that there is
+abbrev pub first_some : {A : Type 0} → List (Option A) → Option A
+first_some [] = None
+first_some (found ∷ rest) = option_or found (first_some rest)
 
--- clause 8, and what comes after
-abbrev pub first_long : List Insn → List Bool → Option Refusal → Option Refusal
-first_long code marks next = if nat_lt MAX_UNFOLDED (unfolded_of code marks) then Some (refusal.UnfoldLimit (capped (unfolded_of code marks))) else next
+-- the refusal, if the number is past the limit
+abbrev pub refused_past : ℕ → ℕ → Refusal → Option Refusal
+refused_past limit n refused = if nat_lt limit n then Some refused else None
 
--- clauses 5, 6, 13, 7 and 8 over the signature, and what comes after
-abbrev pub first_shape : WordSignature → Contents → List Insn → Option Refusal → Option Refusal
-first_shape s c code next =
-    refused_by (λ h. refusal.Height (capped h)) (too_high (roots c))
-    (refused_by refusal.InvNotForm (formless s c.bound 0 c.invs)
-    (refused_by refusal.LemmaNotForm (lemma_formless s c.lemmas)
-    (refused_by refusal.Uncut (uncut_of code (marks_of c code))
-    (first_long code (marks_of c code) next))))
+-- the refusal, unless it is so
+abbrev pub refused_unless : Bool → Refusal → Option Refusal
+refused_unless b refused = if b then None else Some refused
+
+-- clause 5
+abbrev pub height_found : List Tree → Option Refusal
+height_found ts = option_map (λ h. refusal.Height (capped h)) (too_high ts)
+
+-- clause 6, in the signature
+abbrev pub form_found : WordSignature → Option ℕ → List (ℕ × Tree) → Option Refusal
+form_found s bound invs = option_map refusal.InvNotForm (formless s bound 0 invs)
+
+-- clause 13
+abbrev pub formula_found : WordSignature → List (Tree × Tree) → Option Refusal
+formula_found s lemmas = option_map refusal.LemmaNotForm (lemma_formless s lemmas)
+
+-- clause 7
+abbrev pub uncut_found : List Insn → List Bool → Option Refusal
+uncut_found code marks = option_map refusal.Uncut (uncut_of code marks)
+
+-- clause 8
+abbrev pub long_found : List Insn → List Bool → Option Refusal
+long_found code marks =
+    refused_past MAX_UNFOLDED (unfolded_of code marks) (refusal.UnfoldLimit (capped (unfolded_of code marks)))
+
+-- clause 10 of what proofs weigh together
+abbrev pub weight_found : ℕ → Option Refusal
+weight_found weight = refused_past MAX_WEIGHT weight (refusal.ProofWeight (capped weight))
+
+-- clause 14
+abbrev pub unproved_found : WordSignature → List (Tree × Tree) → Option Refusal
+unproved_found s lemmas = option_map refusal.LemmaNotProof (lemma_unproved s lemmas)
+
+-- clauses 7 and 8, which ask neither the signature nor the proof
+abbrev pub cut_found : Contents → List Insn → List (Option Refusal)
+cut_found c code = uncut_found code (marks_of c code) ∷ long_found code (marks_of c code) ∷ []
+
+-- 6 and 13 before them, which ask nothing of the proof
+abbrev pub typed_found : WordSignature → Contents → List Insn → List (Option Refusal)
+typed_found s c code = form_found s c.bound c.invs ∷ formula_found s c.lemmas ∷ cut_found c code
+
+-- and 5 before them
+abbrev pub shape_found : WordSignature → Contents → List Insn → List (Option Refusal)
+shape_found s c code = height_found (roots c) ∷ typed_found s c code
 
 -- clauses 4 to 8, and what comes after, by the code
-abbrev pub first_code : Contents → Result (List Insn) CodeFlaw → (List Insn → Option Refusal) → Option Refusal
-first_code c (Err flaw) next = Some (refusal.BadCode flaw)
-first_code c (Ok code) next = first_shape (signature_of c.version) c code (next code)
+abbrev pub from_code : Contents → Result (List Insn) CodeFlaw → (List Insn → List (Option Refusal)) → List (Option Refusal)
+from_code c (Err flaw) more = Some (refusal.BadCode flaw) ∷ []
+from_code c (Ok code) more = None ∷ shape_found (signature_of c.version) c code ++ more code
 
--- clauses 2 to 8, and what comes after, by the contents and the code
-abbrev pub first_read : PolicyView → Result Contents Fault → (Contents → List Insn → Option Refusal)
-    → Option Refusal
-first_read policy (Err fault) next = Some (refusal.Malformed fault.0 fault.1)
-first_read policy (Ok c) next =
-    if is_for policy c.head
-    then first_code c (decoded_code (profile_of c.version) c.code) (next c)
-    else Some (refusal.OtherPolicy c.head)
+-- clauses 2 to 8, and what comes after, by the contents
+abbrev pub from_contents : PolicyView → Result Contents Fault → (Contents → List Insn → List (Option Refusal))
+    → List (Option Refusal)
+from_contents policy (Err fault) more = Some (refusal.Malformed fault.0 fault.1) ∷ []
+from_contents policy (Ok c) more =
+    None
+    ∷ refused_unless (is_for policy c.head) (refusal.OtherPolicy c.head)
+    ∷ from_code c (decoded_code (profile_of c.version) c.code) (more c)
 
 -- clauses 1 to 8, and what comes after
-abbrev pub first_front : PolicyView → List ℕ → (Contents → List Insn → Option Refusal)
-    → Option Refusal
-first_front policy bytes next =
-    if nat_lt MAX_BYTES (length bytes)
-    then Some (refusal.TooLong (length bytes))
-    else first_read policy (decoded_container bytes) next
-
--- clause 10 of what proofs weigh together, clause 14 over the signature, and what comes after
-abbrev pub first_lemmas : WordSignature → List (Tree × Tree) → ℕ → Option Refusal → Option Refusal
-first_lemmas s lemmas weight next =
-    if nat_lt MAX_WEIGHT weight
-    then Some (refusal.ProofWeight (capped weight))
-    else refused_by refusal.LemmaNotProof (lemma_unproved s lemmas) next
+abbrev pub front_found : PolicyView → List ℕ → (Contents → List Insn → List (Option Refusal)) → List (Option Refusal)
+front_found policy bytes more =
+    refused_past MAX_BYTES (length bytes) (refusal.TooLong (length bytes))
+    ∷ from_contents policy (decoded_container bytes) more
 
 -- clauses 9, 10, 14 and 11 over the signature
-abbrev pub first_proof : WordSignature → List (Tree × Tree) → Tree → Option Tree → Option Refusal
-first_proof s lemmas vc None = Some refusal.NoProof
-first_proof s lemmas vc (Some proof) =
-    first_lemmas s lemmas (proof_weight s lemmas proof)
-    (if proves s lemmas proof vc then None else Some refusal.NotProof)
+abbrev pub proof_found : WordSignature → List (Tree × Tree) → Tree → Option Tree → List (Option Refusal)
+proof_found s lemmas vc None = Some refusal.NoProof ∷ []
+proof_found s lemmas vc (Some proof) =
+    None
+    ∷ weight_found (proof_weight s lemmas proof)
+    ∷ unproved_found s lemmas
+    ∷ refused_unless (proves s lemmas proof vc) refusal.NotProof
+    ∷ []
 
 -- the same of contents and their code
-abbrev pub first_after : PolicyView → Contents → List Insn → Option Refusal
-first_after policy c code =
-    first_proof (signature_of c.version) c.lemmas (vc_of policy c.bound code c.invs) c.proof
+abbrev pub after_front : PolicyView → Contents → List Insn → List (Option Refusal)
+after_front policy c code =
+    proof_found (signature_of c.version) c.lemmas (vc_of policy c.bound code c.invs) c.proof
 
--- of contents, clauses 10 and 14 of the lemmas alone
-abbrev pub first_of_lemmas : Contents → List Insn → Option Refusal
-first_of_lemmas c code =
-    let s = signature_of c.version in first_lemmas s c.lemmas (lemmas_weight s c.lemmas) None
+-- clauses 10 and 14 of the lemmas alone, over the signature
+abbrev pub lemmas_found : WordSignature → List (Tree × Tree) → List (Option Refusal)
+lemmas_found s lemmas = weight_found (lemmas_weight s lemmas) ∷ unproved_found s lemmas ∷ []
 
 -- the first of the clauses before the proof that fails
 unfoldable pub front_refusal : PolicyView → List ℕ → Option Refusal
-front_refusal policy bytes = first_front policy bytes (λ c code. None)
+front_refusal policy bytes = first_some (front_found policy bytes (λ c code. []))
 
 -- the first of these that fails, or, of the lemmas alone, of clauses 10 and 14
 unfoldable pub lemma_refusal : PolicyView → List ℕ → Option Refusal
-lemma_refusal policy bytes = first_front policy bytes first_of_lemmas
+lemma_refusal policy bytes =
+    first_some (front_found policy bytes (λ c code. lemmas_found (signature_of c.version) c.lemmas))
 
 -- the first clause that fails
 unfoldable pub first_refusal : PolicyView → List ℕ → Option Refusal
-first_refusal policy bytes = first_front policy bytes (first_after policy)
+first_refusal policy bytes = first_some (front_found policy bytes (after_front policy))

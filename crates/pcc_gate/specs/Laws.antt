@@ -1,16 +1,15 @@
 -- What ties the clauses to the first that fails.
-use Rattle.std.specs.Prelude.{◌≡◌, ℕ, ◌≤◌, ◌↔◌, Bool, List, None, Some}
+use Rattle.std.specs.Prelude.{◌≡◌, ℕ, ◌↔◌, Bool, List, None, Some}
+use Rattle.word_ops.specs.Tests.{AllPass}
 use Rattle.alpha_words.specs.declared.insn.Insn.{Insn}
-use Rattle.alpha_cfg.specs.Cuts.{unfolded_of}
 use Rattle.policy_set.specs.Views.{PolicyView}
 use Rattle.proof_container.specs.Contents.{Contents}
 use Rattle.term_table.specs.Bytes.{IsBytes}
-use Rattle.vcgen.specs.declared.condition.TheConstants.{MAX_UNFOLDED}
 use Rattle.pcc_gate.specs.declared.refusal.Refusal.{Refusal}
+use Rattle.pcc_gate.specs.Clauses.{gate_tests, IsFirstRefusal, IsFrontRefusal, IsLemmaRefusal}
 use Rattle.pcc_gate.specs.Passing.{Passes}
 use Rattle.pcc_gate.specs.Accepted.{IsAccepted}
 use Rattle.pcc_gate.specs.First.{front_refusal, lemma_refusal, first_refusal}
-use Rattle.pcc_gate.specs.Refusals.{HasCut, IsFirstRefusal, IsBeforeProof, IsLemmaRefusal}
 
 -- bytes are accepted exactly where no clause is the first that fails
 abbrev pub AcceptedFirst : Type 0
@@ -38,22 +37,20 @@ PassedOne =
     (marks flags : List Bool) → IsBytes bytes → Passes policy bytes c code marks
     → Passes policy bytes d other flags → (c ≡ d) × (code ≡ other) × (marks ≡ flags)
 
--- the clauses before the proof are those up to 7, and 8
-abbrev pub PassedUpTo : Type 0
-PassedUpTo =
-    (policy : PolicyView) (bytes : List ℕ) (c : Contents) (code : List Insn) (marks : List Bool) →
-    Passes policy bytes c code marks ↔ (HasCut policy bytes c code marks × (unfolded_of code marks ≤ MAX_UNFOLDED))
+-- they are accepted exactly where all clauses pass, as the list has them
+abbrev pub AcceptedAll : Type 0
+AcceptedAll =
+    (policy : PolicyView) (bytes : List ℕ) → IsAccepted policy bytes ↔ AllPass (gate_tests policy bytes)
 
 -- a refusal is the first exactly where the relation says so, by which no bytes have two
 abbrev pub RefusedFirst : Type 0
 RefusedFirst = (policy : PolicyView) (bytes : List ℕ) (r : Refusal) → IsBytes bytes →
     (first_refusal policy bytes ≡ Some r) ↔ IsFirstRefusal policy bytes r
 
--- a refusal is the first of the clauses before the proof exactly where the relation says so, and it
--- is by one of them
+-- so is one among the clauses before the proof
 abbrev pub RefusedBefore : Type 0
 RefusedBefore = (policy : PolicyView) (bytes : List ℕ) (r : Refusal) → IsBytes bytes →
-    (front_refusal policy bytes ≡ Some r) ↔ (IsFirstRefusal policy bytes r × IsBeforeProof r)
+    (front_refusal policy bytes ≡ Some r) ↔ IsFrontRefusal policy bytes r
 
 -- a refusal is the first of these, and of 10 and 14 of the lemmas alone, exactly where the relation
 -- says so

@@ -1,10 +1,11 @@
 pub mod ForPolicy
-pub mod Passing
 pub mod Weights
+pub mod Refusals
+pub mod Clauses
+pub mod Passing
 pub mod Accepted
 pub mod WrittenOut
 pub mod First
-pub mod Refusals
 pub mod Safe
 pub mod Laws
 pub mod Witness

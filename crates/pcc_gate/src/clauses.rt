@@ -18,10 +18,13 @@ ghost use Rattle.lf_lemmas.specs.Tables.{lemmas_in, LemmasKnown};
 ghost use Rattle.proof_container.specs.Views.{AreKnown};
 ghost use Rattle.proof_container.specs.declared.limits.TheConstants.{MAX_INVS, MAX_LEMMAS};
 ghost use Rattle.vcgen.specs.Encoded.{context_of};
-ghost use Rattle.pcc_gate.specs.First.{too_high, has_form, formless};
-ghost use Rattle.pcc_gate.specs.Inside.Stages.{IsContainerAnswer, IsCodeRead, AreLemmasFormed};
+ghost use Rattle.pcc_gate.specs.First.{too_high, has_form, formless, lemma_formless};
+ghost use Rattle.pcc_gate.specs.Inside.Stages.{IsContainerAnswer, IsCodeRead, AnswersSearch, AnswersLimit};
 ghost use Rattle.pcc_gate.specs.Inside.Stages.{later_trees, measured_trees};
-ghost use Rattle.pcc_gate.specs.Inside.Stages.{IsCutMade, IsLengthAnswer};
+ghost use Rattle.pcc_gate.specs.Inside.Stages.{IsCutMade};
+ghost use Rattle.pcc_gate.specs.declared.refusal.Refusal.TheVariants as refusal;
+ghost use Rattle.alpha_cfg.specs.Cuts.{unfolded_of};
+ghost use Rattle.vcgen.specs.declared.condition.TheConstants.{MAX_UNFOLDED};
 ghost use Rattle.hereditary_subst.specs.Limits.{is_limited, SpendsResults, NeedsLimit};
 ghost use Rattle.pcc_gate.specs.declared.fault.GateFault.TheVariants.{Results};
 
@@ -260,7 +263,8 @@ pub(crate) fn lemmas_formed(
     requires known { LemmasKnown table.old lemmas.now }
     requires few { length lemmas.now ≤ MAX_LEMMAS }
     requires kept { AreKept (declared signature) table.old kept.old }
-    ensures answer { AreLemmasFormed signature (lemmas_in table.old lemmas.now) result }
+    ensures answer { let lemmas = lemmas_in table.old lemmas.now in
+        AnswersSearch refusal.LemmaNotForm (lemma_formless signature lemmas) result }
     ensures extends { Extends table.old table.new }
     ensures kept { OnOk result (AreKept (declared signature) table.new kept.new) }
     ensures limited { is_limited kept.new.memo ≡ is_limited kept.old.memo }
@@ -300,7 +304,9 @@ pub(crate) fn cut_at(alloc: Global, code: Code, invs: &[(u32, Id)]) -> Result<Cu
 
 /// Acceptance check 8: the total length of the paths between cut points is within its limit.
 pub(crate) fn short(cut: &Cut) -> Result<(), GateFault>
-    ensures answer { IsLengthAnswer cut.now.code cut.now.marks result }
+    ensures answer { let unfolded = unfolded_of cut.now.code cut.now.marks in
+        let refused = refusal.UnfoldLimit (capped unfolded) in
+        AnswersLimit MAX_UNFOLDED unfolded refused result }
     ensures limit { NeedsLimit false Results result }
 {
     let unfolded = cut.unfolded();

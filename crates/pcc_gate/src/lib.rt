@@ -7,11 +7,11 @@
 //! if it has one (`Accepted::laws`, `laws`).
 //!
 //! `specs/ForPolicy` defines which container is for a policy; the dependence on the version is in
-//! proof_container (`specs/Versions`). The checks are in `specs/Passing` and `specs/Accepted`,
-//! acceptance with lemmas inlined in `specs/WrittenOut`, what each refusal means in
-//! `specs/Refusals`, the first check that fails as a function in `specs/First`, what the calls
-//! return in `specs/Answers`, and the safety promise in `specs/Safe`. Source: Necula,
-//! Proof-Carrying Code, POPL 1997.
+//! proof_container (`specs/Versions`). The checks, in order, each with its refusal, are lists of
+//! tests in `specs/Clauses`; what passes them is in `specs/Passing` and `specs/Accepted`. The first
+//! check that fails, as a function, is in `specs/First`, acceptance with lemmas inlined in
+//! `specs/WrittenOut`, what the calls return in `specs/Answers`, and the safety promise in
+//! `specs/Safe`. Source: Necula, Proof-Carrying Code, POPL 1997.
 #![tactic(auto)]
 
 mod acceptance;

@@ -12,7 +12,9 @@ ghost use Rattle.proof_container.specs.Encoding.{IsContents};
 ghost use Rattle.proof_container.specs.declared.limits.TheConstants.{MAX_INVS, MAX_LEMMAS};
 ghost use Rattle.pcc_gate.specs.Answers.{IsHeld, IsFrontAnswer, IsLemmaFrontAnswer};
 ghost use Rattle.pcc_gate.specs.Passing.{Passes};
-ghost use Rattle.pcc_gate.specs.Inside.Stages.{with_roots, AreFormed, IsShapeAnswer, CountsLow};
+ghost use Rattle.pcc_gate.specs.Inside.Stages.{with_roots, AnswersSearch, IsShapeAnswer, CountsLow};
+ghost use Rattle.pcc_gate.specs.First.{formless};
+ghost use Rattle.pcc_gate.specs.declared.refusal.Refusal.TheVariants as refusal;
 ghost use Rattle.pcc_gate.specs.Inside.Passed.{IsRestAnswer, IsPassedAnswer, CountsUntyped};
 ghost use Rattle.lf_signature.specs.declared.editions.WordSignature.{WordSignature};
 ghost use Rattle.hereditary_subst.specs.Limits.{is_limited, NeedsLimit};
@@ -56,7 +58,8 @@ fn formed(
     requires known { AllByRecursion (λ inv. IsKnown table.old inv.1) invs.now }
     requires few { length invs.now ≤ MAX_INVS }
     requires kept { (t : TableView) → AreKept (declared signature) t kept.old }
-    ensures answer { AreFormed signature bound (id_trees table.old invs.now) result }
+    ensures answer { let invs = id_trees table.old invs.now in
+        AnswersSearch refusal.InvNotForm (formless signature bound 0 invs) result }
     ensures extends { Extends table.old table.new }
     ensures kept { OnOk result (AreKept (declared signature) table.new kept.new) }
     ensures limited { is_limited kept.new.memo ≡ is_limited kept.old.memo }

@@ -17,7 +17,10 @@ ghost use Rattle.vcgen.specs.Answers.{AreLowInvs};
 ghost use Rattle.vcgen.specs.Encoded.{AreForms};
 ghost use Rattle.vcgen.specs.declared.condition.TheConstants.{MAX_UNFOLDED};
 ghost use Rattle.pcc_gate.specs.Inside.Acceptance.{IsProofFound, IsProofAnswer};
-ghost use Rattle.pcc_gate.specs.Inside.Acceptance.{IsLemmaWeight, AreLemmasProved};
+ghost use Rattle.pcc_gate.specs.Inside.Stages.{AnswersSearch, AnswersLimit};
+ghost use Rattle.pcc_gate.specs.First.{lemma_unproved};
+ghost use Rattle.pcc_gate.specs.declared.limits.TheConstants.{MAX_WEIGHT};
+ghost use Rattle.pcc_gate.specs.declared.refusal.Refusal.TheVariants as refusal;
 ghost use Rattle.hereditary_subst.specs.Limits.{is_limited, SpendsResults, NeedsLimit};
 ghost use Rattle.pcc_gate.specs.declared.fault.GateFault.TheVariants.{Results};
 
@@ -87,7 +90,8 @@ pub(crate) fn lemmas_light(
 ) -> Result<(), GateFault>
     requires known { LemmasKnown table.now lemmas.now }
     requires places { table.now.places ≡ places_of signature }
-    ensures answer { IsLemmaWeight signature (lemmas_in table.now lemmas.now) result }
+    ensures answer { let weight = lemmas_weight signature (lemmas_in table.now lemmas.now) in
+        AnswersLimit MAX_WEIGHT weight (refusal.ProofWeight (capped weight)) result }
     ensures limit { NeedsLimit false Results result }
 {
     let weight = lemmas_weight(table, signature, lemmas);
@@ -109,7 +113,8 @@ pub(crate) fn lemmas_proved(
     requires holds { HoldsLemmas (declared signature) table.old lemmas.now }
     requires few { length lemmas.now ≤ MAX_LEMMAS }
     requires kept { AreKept (declared signature) table.old kept.old }
-    ensures answer { AreLemmasProved signature (lemmas_in table.old lemmas.now) result }
+    ensures answer { let lemmas = lemmas_in table.old lemmas.now in
+        AnswersSearch refusal.LemmaNotProof (lemma_unproved signature lemmas) result }
     ensures extends { Extends table.old table.new }
     ensures kept { let sig = declared signature in
         let forms = formulas_of (lemmas_in table.new lemmas.now) in

@@ -31,21 +31,41 @@ abbrev pub head_text : Head → List ℕ
 head_text (Number number) = decimal number
 head_text (Digest digest) = hex_bytes digest
 
+-- the number that a refusal's line has after `refused`
+abbrev pub refusal_number : Refusal → ℕ
+refusal_number (refusal.TooLong length) = 1
+refusal_number (refusal.Malformed offset flaw) = 2
+refusal_number (refusal.OtherPolicy head) = 3
+refusal_number (refusal.BadCode flaw) = 4
+refusal_number (refusal.Height h) = 5
+refusal_number (refusal.InvNotForm k) = 6
+refusal_number (refusal.LemmaNotForm k) = 13
+refusal_number (refusal.Uncut i) = 7
+refusal_number (refusal.UnfoldLimit n) = 8
+refusal_number refusal.NoProof = 9
+refusal_number (refusal.ProofWeight n) = 10
+refusal_number (refusal.LemmaNotProof k) = 14
+refusal_number refusal.NotProof = 11
+
+-- the number and the name of a check, and what is wrong
+abbrev pub refusal_words : Refusal → List ℕ
+refusal_words (refusal.TooLong length) = codes "1 TooLong"
+refusal_words (refusal.Malformed offset flaw) = codes "2 Malformed " ++ malformed_text offset flaw
+refusal_words (refusal.OtherPolicy head) = codes "3 OtherPolicy " ++ head_text head
+refusal_words (refusal.BadCode flaw) = codes "4 BadCode " ++ code_flaw_text flaw
+refusal_words (refusal.Height h) = codes "5 Height " ++ decimal h
+refusal_words (refusal.InvNotForm k) = codes "6 InvNotForm " ++ decimal k
+refusal_words (refusal.LemmaNotForm k) = codes "13 LemmaNotForm " ++ decimal k
+refusal_words (refusal.Uncut i) = codes "7 Uncut " ++ decimal i
+refusal_words (refusal.UnfoldLimit n) = codes "8 UnfoldLimit " ++ decimal n
+refusal_words refusal.NoProof = codes "9 NoProof"
+refusal_words (refusal.ProofWeight n) = codes "10 ProofWeight " ++ decimal n
+refusal_words (refusal.LemmaNotProof k) = codes "14 LemmaNotProof " ++ decimal k
+refusal_words refusal.NotProof = codes "11 NotProof"
+
 -- why a container is refused
 abbrev pub refusal_text : Refusal → List ℕ
-refusal_text (refusal.TooLong length) = codes "refused 1 TooLong"
-refusal_text (refusal.Malformed offset flaw) = codes "refused 2 Malformed " ++ malformed_text offset flaw
-refusal_text (refusal.OtherPolicy head) = codes "refused 3 OtherPolicy " ++ head_text head
-refusal_text (refusal.BadCode flaw) = codes "refused 4 BadCode " ++ code_flaw_text flaw
-refusal_text (refusal.Height h) = codes "refused 5 Height " ++ decimal h
-refusal_text (refusal.InvNotForm k) = codes "refused 6 InvNotForm " ++ decimal k
-refusal_text (refusal.LemmaNotForm k) = codes "refused 13 LemmaNotForm " ++ decimal k
-refusal_text (refusal.Uncut i) = codes "refused 7 Uncut " ++ decimal i
-refusal_text (refusal.UnfoldLimit n) = codes "refused 8 UnfoldLimit " ++ decimal n
-refusal_text refusal.NoProof = codes "refused 9 NoProof"
-refusal_text (refusal.ProofWeight n) = codes "refused 10 ProofWeight " ++ decimal n
-refusal_text (refusal.LemmaNotProof k) = codes "refused 14 LemmaNotProof " ++ decimal k
-refusal_text refusal.NotProof = codes "refused 11 NotProof"
+refusal_text refusal = codes "refused " ++ refusal_words refusal
 
 -- the line of a refusal
 unfoldable pub refusal_line : Refusal → List ℕ

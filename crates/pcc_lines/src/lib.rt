@@ -43,7 +43,7 @@ pub use named::{print_missing, print_read_fault, print_write_fault};
 pub use packet_faults::print_packet_fault;
 pub use policies::{MAX_FORM_KIND, print_policy_form, print_policy_length, print_policy_lines};
 pub use proving::{MAX_MEASURE, print_not_easy, print_too_big};
-pub use refusals::print_refusal;
+pub use refusals::{print_refusal, refusal_number};
 pub use results::{print_result, print_results};
 pub use scripts::{MAX_SCRIPT_KIND, print_script_fault};
 pub use sources::{MAX_SOURCE_KIND, print_source_fault, print_written};

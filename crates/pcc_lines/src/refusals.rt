@@ -3,7 +3,7 @@
 ghost use Rattle.std.specs.Prelude.{◌≡◌, ◌+◌, ◌≤◌, ◌++◌, length, decimal};
 ghost use Rattle.arrayvec.specs.ArrayVec.{array_vec_len};
 ghost use Rattle.file_port.specs.Sink.{Puts};
-ghost use Rattle.pcc_lines.specs.Refusals.{refusal_line, refusal_text, code_flaw_text};
+ghost use Rattle.pcc_lines.specs.Refusals.{refusal_line, refusal_text, refusal_words, refusal_number, code_flaw_text};
 ghost use Rattle.pcc_lines.specs.Refusals.{bad_word_text, malformed_text, head_text};
 
 use crate::line::{DIGITS, LINE, Line, push_bytes, push_decimal, push_hex, push_text};
@@ -23,6 +23,9 @@ const MALFORMED: usize = 32;
 /// The maximal length in bytes of the text that names a policy: two digits for each byte of a
 /// digest.
 const HEAD: usize = 64;
+
+/// The maximal length in bytes of the words of a refusal.
+const WORDS: usize = 78;
 
 /// The maximal length in bytes of a refusal's text.
 pub const REFUSAL: usize = 86;
@@ -92,36 +95,67 @@ fn push_numbered(line: &mut Line, text: &str, number: u32)
     push_decimal(line, u64::from(number));
 }
 
+/// Returns the number that the refusal's line has after `refused`.
+pub fn refusal_number(refusal: Refusal) -> u32
+    ensures { result ≡ refusal_number refusal }
+{
+    match refusal {
+        Refusal::TooLong(_) => 1,
+        Refusal::Malformed(_, _) => 2,
+        Refusal::OtherPolicy(_) => 3,
+        Refusal::BadCode(_) => 4,
+        Refusal::Height(_) => 5,
+        Refusal::InvNotForm(_) => 6,
+        Refusal::Uncut(_) => 7,
+        Refusal::UnfoldLimit(_) => 8,
+        Refusal::NoProof => 9,
+        Refusal::ProofWeight(_) => 10,
+        Refusal::NotProof => 11,
+        Refusal::LemmaNotForm(_) => 13,
+        Refusal::LemmaNotProof(_) => 14,
+    }
+}
+
+/// Appends the number and the name of the check, and what is wrong.
+fn push_words(line: &mut Line, refusal: Refusal)
+    requires { array_vec_len line.old + WORDS ≤ LINE }
+    ensures items { line.new.items ≡ line.old.items ++ refusal_words refusal }
+    ensures len { array_vec_len line.new ≤ array_vec_len line.old + WORDS }
+{
+    match refusal {
+        Refusal::TooLong(_) => push_text(line, "1 TooLong"),
+        Refusal::Malformed(offset, flaw) => {
+            push_text(line, "2 Malformed ");
+            push_malformed(line, offset, flaw);
+        }
+        Refusal::OtherPolicy(head) => {
+            push_text(line, "3 OtherPolicy ");
+            push_head(line, head);
+        }
+        Refusal::BadCode(flaw) => {
+            push_text(line, "4 BadCode ");
+            push_code_flaw(line, flaw);
+        }
+        Refusal::Height(height) => push_numbered(line, "5 Height ", height),
+        Refusal::InvNotForm(k) => push_numbered(line, "6 InvNotForm ", k),
+        Refusal::LemmaNotForm(k) => push_numbered(line, "13 LemmaNotForm ", k),
+        Refusal::Uncut(index) => push_numbered(line, "7 Uncut ", index),
+        Refusal::UnfoldLimit(n) => push_numbered(line, "8 UnfoldLimit ", n),
+        Refusal::NoProof => push_text(line, "9 NoProof"),
+        Refusal::ProofWeight(n) => push_numbered(line, "10 ProofWeight ", n),
+        Refusal::LemmaNotProof(k) => push_numbered(line, "14 LemmaNotProof ", k),
+        Refusal::NotProof => push_text(line, "11 NotProof"),
+    }
+}
+
 /// Appends why a container is refused.
 pub fn push_refusal(line: &mut Line, refusal: Refusal)
     requires { array_vec_len line.old + REFUSAL ≤ LINE }
     ensures items { line.new.items ≡ line.old.items ++ refusal_text refusal }
     ensures len { array_vec_len line.new ≤ array_vec_len line.old + REFUSAL }
 {
-    match refusal {
-        Refusal::TooLong(_) => push_text(line, "refused 1 TooLong"),
-        Refusal::Malformed(offset, flaw) => {
-            push_text(line, "refused 2 Malformed ");
-            push_malformed(line, offset, flaw);
-        }
-        Refusal::OtherPolicy(head) => {
-            push_text(line, "refused 3 OtherPolicy ");
-            push_head(line, head);
-        }
-        Refusal::BadCode(flaw) => {
-            push_text(line, "refused 4 BadCode ");
-            push_code_flaw(line, flaw);
-        }
-        Refusal::Height(height) => push_numbered(line, "refused 5 Height ", height),
-        Refusal::InvNotForm(k) => push_numbered(line, "refused 6 InvNotForm ", k),
-        Refusal::LemmaNotForm(k) => push_numbered(line, "refused 13 LemmaNotForm ", k),
-        Refusal::Uncut(index) => push_numbered(line, "refused 7 Uncut ", index),
-        Refusal::UnfoldLimit(n) => push_numbered(line, "refused 8 UnfoldLimit ", n),
-        Refusal::NoProof => push_text(line, "refused 9 NoProof"),
-        Refusal::ProofWeight(n) => push_numbered(line, "refused 10 ProofWeight ", n),
-        Refusal::LemmaNotProof(k) => push_numbered(line, "refused 14 LemmaNotProof ", k),
-        Refusal::NotProof => push_text(line, "refused 11 NotProof"),
-    }
+    push_text(line, "refused ");
+    push_words(line, refusal);
 }
 
 /// Prints why a container is refused, as one piece.

@@ -3,3 +3,4 @@ pub mod ReadingLemmas
 pub mod DecisionLemmas
 pub mod AccountLemmas
 pub mod RunLemmas
+pub mod Splitting

@@ -18,7 +18,7 @@ use Rattle.vcgen.specs.Safety.{IsBound}
 use Rattle.vcgen.proofs.Scopes.{condition-closed}
 use Rattle.vcgen.proofs.Encodings.{encoded-annotates}
 use Rattle.pcc_gate.specs.First.{formulas}
-use Rattle.pcc_gate.proofs.First.{formulas-encoded, condition-one, formulas-used}
+use Rattle.pcc_gate.proofs.Conditions.{formulas-encoded, condition-one, formulas-used}
 use Rattle.pcc_gate.proofs.Safe.{formulas-over}
 use Rattle.prover_class.specs.Parts.{conjoined, condition_proof}
 use Rattle.term_table.specs.Table.{TableView, tree_at}

@@ -1,12 +1,13 @@
-//! Test runner for `pcc`, `pcc_view` and `pcc_native`, over files and output in memory.
+//! Test runner for the four programs' commands, over files and output in memory.
 //!
 //! The arguments name files of the current folder. A file whose name ends in `.rows` is run; any
 //! other file is hexadecimal text, whose bytes are the file of that name for every later row. Rows
-//! in files whose names begin with `view-` are for `pcc_view`, with `native-` for `pcc_native`, and
-//! the others for `pcc`.
+//! in files whose names begin with `view-` are for `pcc_view`, with `native-` for `pcc_native`, with
+//! `auto-` for `pcc_auto`, and the others for `pcc`.
 #![tactic(auto)]
 
 use anyhow::Result;
+use auto_cli::pcc_auto;
 use file_port::{MemFiles, MemSink};
 use native_cli::pcc_native;
 use pcc_cli::pcc;
@@ -21,6 +22,7 @@ enum Command {
     Pcc,
     View,
     Native,
+    Auto,
 }
 
 impl Command {
@@ -30,6 +32,8 @@ impl Command {
             Command::View
         } else if name.starts_with("native-") {
             Command::Native
+        } else if name.starts_with("auto-") {
+            Command::Auto
         } else {
             Command::Pcc
         }
@@ -48,6 +52,7 @@ impl Program for Command {
             Command::Pcc => pcc(alloc, words, files, out),
             Command::View => pcc_view(alloc, words, files, out),
             Command::Native => pcc_native(alloc, words, files, out),
+            Command::Auto => pcc_auto(alloc, words, files, out),
         }
     }
 }

@@ -59,7 +59,7 @@ fn aim_at(scene: &mut Scene, target: Target, text: &str) -> Result<bool, AllocEr
 fn begin(scene: &mut Scene, line: u32, key: &str, text: &str) -> Result<bool, AllocError> {
     match key {
         "file" => aim_at(scene, Target::File, text),
-        "pcc" | "pcc_view" | "pcc_native" => {
+        "pcc" | "pcc_view" | "pcc_native" | "pcc_auto" => {
             scene.begin(line, text)?;
             Ok(true)
         }
@@ -94,7 +94,15 @@ fn take<P: Program>(
     text: &str,
 ) -> Result<bool, AllocError> {
     match key {
-        "file" | "pcc" | "pcc_view" | "pcc_native" | "goal" | "word" | "insn" | "clear" => {
+        "file"
+        | "pcc"
+        | "pcc_view"
+        | "pcc_native"
+        | "pcc_auto"
+        | "goal"
+        | "word"
+        | "insn"
+        | "clear" => {
             end_row(program, scene)?;
             begin(scene, line, key, text)
         }

@@ -52,19 +52,7 @@ before line letter is less = omega (arith, is, less)
 
 refusal_letter : (r : Refusal) → get_or (refusal_line r) 0 0 ≡ 114
 unfolding refusal_line
-refusal_letter (refusal.TooLong length) = refl
-refusal_letter (refusal.Malformed offset flaw) = refl
-refusal_letter (refusal.OtherPolicy head) = refl
-refusal_letter (refusal.BadCode flaw) = refl
-refusal_letter (refusal.Height h) = refl
-refusal_letter (refusal.InvNotForm k) = refl
-refusal_letter (refusal.LemmaNotForm k) = refl
-refusal_letter (refusal.Uncut i) = refl
-refusal_letter (refusal.UnfoldLimit n) = refl
-refusal_letter refusal.NoProof = refl
-refusal_letter (refusal.ProofWeight n) = refl
-refusal_letter (refusal.LemmaNotProof k) = refl
-refusal_letter refusal.NotProof = refl
+refusal_letter r = refl
 
 pub refusal_begins : (r : Refusal) → BeginsBefore (refusal_line r)
 refusal_begins r = before (refusal_line r) 114 (refusal_letter r) (omega arith)

@@ -19,9 +19,9 @@ pub goals-listed : (s : StyleView) (policy : PolicyView) (bytes : List ℕ) (c :
     → goals_of_bytes s policy bytes ≡ Ok (goals_text s policy c code)
 unfolding goals_of_bytes
 goals-listed s policy bytes c code marks passes none =
-    (λ i. listed_unless (none i) (goals_read s policy (container_again bytes c passes.container i)))
+    (λ i. listed_unless (none i) (goals_read s policy (container_again bytes c passes.has.container i)))
     ∙ ap (goals_of_code s policy c)
-    (sym (decoded_code-ok (profile_of c.version) c.code code passes.encoded passes.code))
+    (sym (decoded_code-ok (profile_of c.version) c.code code passes.has.encoded passes.has.code))
 
 -- else the refusal
 pub goals-refused : (s : StyleView) (policy : PolicyView) (bytes : List ℕ) (r : Refusal)

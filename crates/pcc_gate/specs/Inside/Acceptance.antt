@@ -1,5 +1,5 @@
 -- What makes accepted code safe and its condition true.
-use Rattle.std.specs.Prelude.{◌≡◌, ℕ, ◌≤◌, true, false, List, map, length, Option, None, Some, Result, Ok, Err}
+use Rattle.std.specs.Prelude.{◌≡◌, ℕ, ◌≤◌, true, false, List, map, length, Option, Some, Result, Ok, Err}
 use Rattle.std.specs.Option.{option_map}
 use Rattle.alpha_words.specs.declared.insn.Insn.{Insn}
 use Rattle.std.specs.List.{AllByRecursion}
@@ -21,8 +21,8 @@ use Rattle.pcc_gate.specs.declared.fault.GateFault.{GateFault}
 use Rattle.pcc_gate.specs.declared.fault.GateFault.TheVariants as fault
 use Rattle.pcc_gate.specs.declared.limits.TheConstants.{MAX_WEIGHT}
 use Rattle.pcc_gate.specs.declared.refusal.Refusal.TheVariants as refusal
-use Rattle.pcc_gate.specs.First.{vc_of, lemma_unproved, proves, first_lemmas, first_proof, refused_by}
-use Rattle.pcc_gate.specs.Weights.{lemmas_weight, proof_weight}
+use Rattle.pcc_gate.specs.First.{vc_of, proves, proof_found}
+use Rattle.pcc_gate.specs.Weights.{proof_weight}
 use Rattle.pcc_gate.specs.Inside.Stages.{Refuses}
 
 -- the code is safe for the policy, and returns within the bound, its invariants are forms, and the
@@ -49,18 +49,7 @@ IsProofFound s t lemmas proof (Ok id) =
     (proof ≡ Some id) × IsKnown t id
     × (proof_weight s (lemmas_in t lemmas) (tree_at t id) ≤ MAX_WEIGHT)
 IsProofFound s t lemmas proof (Err e) =
-    Refuses (λ vc. first_proof s (lemmas_in t lemmas) vc (option_map (tree_at t) proof)) e
-
--- the first refusal by clause 10 of lemmas alone
-abbrev pub IsLemmaWeight : WordSignature → List (Tree × Tree) → Result Unit GateFault → Type 0
-IsLemmaWeight s lemmas (Ok _) = lemmas_weight s lemmas ≤ MAX_WEIGHT
-IsLemmaWeight s lemmas (Err e) = Refuses (first_lemmas s lemmas (lemmas_weight s lemmas)) e
-
--- clause 14 over the signature
-abbrev pub AreLemmasProved : WordSignature → List (Tree × Tree) → Result Unit GateFault → Type 0
-AreLemmasProved s lemmas (Ok _) = lemma_unproved s lemmas ≡ None
-AreLemmasProved s lemmas (Err e) =
-    Refuses (refused_by refusal.LemmaNotProof (lemma_unproved s lemmas)) e
+    Refuses (λ vc. proof_found s (lemmas_in t lemmas) vc (option_map (tree_at t) proof)) e
 
 -- clause 11 over the signature with the lemmas, with the bound, the proof's term being given
 abbrev pub IsProofAnswer : WordSignature → List (Tree × Tree) → PolicyView → Option ℕ → List Insn

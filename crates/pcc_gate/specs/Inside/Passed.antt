@@ -10,8 +10,9 @@ use Rattle.proof_container.specs.Views.{contents_of}
 use Rattle.pcc_gate.specs.declared.fault.GateFault.{GateFault}
 use Rattle.pcc_gate.specs.declared.fault.GateFault.TheVariants.{Results}
 use Rattle.pcc_gate.specs.declared.passing.Passed.{Passed}
-use Rattle.pcc_gate.specs.First.{first_code}
-use Rattle.pcc_gate.specs.Passing.{AreLow, Passes}
+use Rattle.pcc_gate.specs.First.{from_code}
+use Rattle.pcc_gate.specs.Refusals.{AreLow}
+use Rattle.pcc_gate.specs.Passing.{Passes}
 use Rattle.pcc_gate.specs.Answers.{IsHeld}
 use Rattle.pcc_gate.specs.Inside.Stages.{Refuses, RefusesBytes, IsShaped}
 use Rattle.proof_container.specs.Versions.{profile_of, signature_of}
@@ -27,7 +28,7 @@ pub record IsRest (c : Contents) (p : Passed) : Type 0 where
 -- clauses 4 to 8
 abbrev pub IsRestAnswer : Contents → Result Passed GateFault → Type 0
 IsRestAnswer c (Ok p) = IsRest c p
-IsRestAnswer c (Err e) = Refuses (first_code c (decoded_code (profile_of c.version) c.code)) e
+IsRestAnswer c (Err e) = Refuses (from_code c (decoded_code (profile_of c.version) c.code)) e
 
 -- contents that pass clauses 4 and 5, which type no term
 pub record IsUntyped (c : Contents) : Type 0 where

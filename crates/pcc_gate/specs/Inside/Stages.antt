@@ -1,11 +1,11 @@
 -- What each stage of the gate answers.
-use Rattle.std.specs.Prelude.{◌≡◌, ℕ, ◌≤◌, List, [], ◌++◌, Bool, Option, None, Result, Ok, Err, IfErr, map, length}
+use Rattle.std.specs.Prelude.{◌≡◌, ℕ, ◌≤◌, List, [], ◌++◌, Option, None, Result, Ok, Err, IfErr, map, length}
 use Rattle.std.specs.Option.{option_map}
 use Rattle.alpha_words.specs.declared.insn.Insn.{Insn}
 use Rattle.alpha_cfg.specs.CodeBytes.{EncodesCode}
 use Rattle.alpha_cfg.specs.CodeDecoding.{decoded_code}
 use Rattle.alpha_cfg.specs.Flow.{IsCode}
-use Rattle.alpha_cfg.specs.Cuts.{CutView, AreFlags, IsCut, unfolded_of}
+use Rattle.alpha_cfg.specs.Cuts.{CutView, AreFlags, IsCut}
 use Rattle.alpha_cfg.specs.Deciding.{flags_of, uncut_of}
 use Rattle.policy_set.specs.Views.{PolicyView}
 use Rattle.term_table.specs.Tree.{Tree}
@@ -19,10 +19,8 @@ use Rattle.proof_container.specs.declared.limits.TheConstants.{MAX_BYTES}
 use Rattle.pcc_gate.specs.declared.fault.GateFault.{GateFault}
 use Rattle.pcc_gate.specs.declared.fault.GateFault.TheVariants as fault
 use Rattle.pcc_gate.specs.declared.refusal.Refusal.{Refusal}
-use Rattle.pcc_gate.specs.declared.refusal.Refusal.TheVariants as refusal
-use Rattle.vcgen.specs.declared.condition.TheConstants.{MAX_UNFOLDED}
 use Rattle.pcc_gate.specs.Answers.{IsHeld}
-use Rattle.pcc_gate.specs.First.{too_high, formless, lemma_formless, first_code, first_front, first_long, first_shape, refused_by}
+use Rattle.pcc_gate.specs.First.{too_high, first_some, refused_past, uncut_found, shape_found, from_code, front_found}
 use Rattle.word_ops.specs.declared.Profile.{Profile}
 use Rattle.lf_signature.specs.declared.editions.WordSignature.{WordSignature}
 use Rattle.proof_container.specs.declared.container.Head.TheVariants.{Number}
@@ -39,17 +37,33 @@ abbrev pub measured_trees : TableView → List (ℕ × ℕ) → List (ℕ × ℕ
 measured_trees t invs lemmas proof =
     map (λ p. p.1) (id_trees t invs) ++ later_trees t lemmas proof
 
--- a refusal is the first whatever comes after the stage, for which next stands; what ran out says
--- nothing
-abbrev pub Refuses : {N : Type 0} → (N → Option Refusal) → GateFault → Type 0
-Refuses {N} first (fault.Refused r) = (next : N) → first next ≡ Option.Some r
-Refuses first fault.Memory = Unit {0}
-Refuses first fault.Results = Unit {0}
+-- the refusal is what is found; what ran out says nothing
+abbrev pub IsRefusalOf : Option Refusal → GateFault → Type 0
+IsRefusalOf found (fault.Refused r) = found ≡ Option.Some r
+IsRefusalOf found fault.Memory = Unit {0}
+IsRefusalOf found fault.Results = Unit {0}
+
+-- a clause that searches: nothing is found, or the refusal tells what is
+abbrev pub AnswersSearch : {X A : Type 0} → (X → Refusal) → Option X → Result A GateFault → Type 0
+AnswersSearch refused found (Ok _) = found ≡ None
+AnswersSearch refused found (Err e) = IsRefusalOf (option_map refused found) e
+
+-- a clause with a limit: the number is within it, or refused
+abbrev pub AnswersLimit : {A : Type 0} → ℕ → ℕ → Refusal → Result A GateFault → Type 0
+AnswersLimit limit n refused (Ok _) = n ≤ limit
+AnswersLimit limit n refused (Err e) = IsRefusalOf (refused_past limit n refused) e
+
+-- a refusal is the first that is found, whatever comes after the stage, for which more stands
+abbrev pub Refuses : {N : Type 0} → (N → List (Option Refusal)) → GateFault → Type 0
+Refuses {N} found (fault.Refused r) = (more : N) → first_some (found more) ≡ Option.Some r
+Refuses found fault.Memory = Unit {0}
+Refuses found fault.Results = Unit {0}
 
 -- a refusal of bytes, whatever comes after; memory ran out of bytes that aren't too many, and
 -- results of such as pass clauses 1 to 5
 abbrev pub RefusesBytes : PolicyView → List ℕ → GateFault → Type 0
-RefusesBytes policy bytes (fault.Refused r) = (next : Contents → List Insn → Option Refusal) → first_front policy bytes next ≡ Option.Some r
+RefusesBytes policy bytes (fault.Refused r) =
+    (more : Contents → List Insn → List (Option Refusal)) → first_some (front_found policy bytes more) ≡ Option.Some r
 RefusesBytes policy bytes fault.Memory = length bytes ≤ MAX_BYTES
 RefusesBytes policy bytes fault.Results = PassesUntyped policy bytes
 
@@ -68,11 +82,7 @@ IsContainerAnswer policy bytes (Err e) = RefusesBytes policy bytes e
 abbrev pub IsCodeRead : Profile → List ℕ → Result (List Insn) GateFault → Type 0
 IsCodeRead p bytes (Ok code) =
     (decoded_code p bytes ≡ Ok code) × EncodesCode p bytes code × IsCode code
-IsCodeRead p bytes (Err e) = (c : Contents) → Refuses (first_code c (decoded_code p bytes)) e
-
--- the first refusal by clause 7, and what comes after
-abbrev pub first_uncut : List Insn → List ℕ → Option Refusal → Option Refusal
-first_uncut code annotated next = refused_by refusal.Uncut (uncut_of code (flags_of annotated (length code))) next
+IsCodeRead p bytes (Err e) = (c : Contents) → Refuses (from_code c (decoded_code p bytes)) e
 
 -- cut code: its flags, that they cut it, and that clause 7 doesn't refuse
 pub record IsMade (code : List Insn) (annotated : List ℕ) (cut : CutView) : Type 0 where
@@ -85,12 +95,7 @@ pub record IsMade (code : List Insn) (annotated : List ℕ) (cut : CutView) : Ty
 -- clause 7
 abbrev pub IsCutMade : List Insn → List ℕ → Result CutView GateFault → Type 0
 IsCutMade code annotated (Ok cut) = IsMade code annotated cut
-IsCutMade code annotated (Err e) = Refuses (first_uncut code annotated) e
-
--- clause 8
-abbrev pub IsLengthAnswer : List Insn → List Bool → Result Unit GateFault → Type 0
-IsLengthAnswer code marks (Ok _) = unfolded_of code marks ≤ MAX_UNFOLDED
-IsLengthAnswer code marks (Err e) = Refuses (first_long code marks) e
+IsCutMade code annotated (Err e) = IsRefusalOf (uncut_found code (flags_of annotated (length code))) e
 
 -- contents of which the bound and the roots alone are of interest, these by their ids
 abbrev pub with_roots : TableView → Option ℕ → List (ℕ × ℕ) → List (ℕ × ℕ) → Option ℕ → Contents
@@ -104,38 +109,16 @@ with_roots t bound invs lemmas proof = record {
   proof = option_map (tree_at t) proof;
 }
 
--- the first refusal by clause 6 over the signature, with the bound, and what comes after
-abbrev pub first_no_form : WordSignature → Option ℕ → List (ℕ × Tree) → Option Refusal
-    → Option Refusal
-first_no_form s bound invs next = refused_by refusal.InvNotForm (formless s bound 0 invs) next
-
--- clause 6
-abbrev pub AreFormed : WordSignature → Option ℕ → List (ℕ × Tree) → Result Unit GateFault → Type 0
-AreFormed s bound invs (Ok _) = formless s bound 0 invs ≡ None
-AreFormed s bound invs (Err e) = Refuses (first_no_form s bound invs) e
-
--- the first refusal by clause 13 over the signature, and what comes after
-abbrev pub first_no_formula : WordSignature → List (Tree × Tree) → Option Refusal → Option Refusal
-first_no_formula s lemmas next = refused_by refusal.LemmaNotForm (lemma_formless s lemmas) next
-
--- clause 13
-abbrev pub AreLemmasFormed : WordSignature → List (Tree × Tree) → Result Unit GateFault → Type 0
-AreLemmasFormed s lemmas (Ok _) = lemma_formless s lemmas ≡ None
-AreLemmasFormed s lemmas (Err e) = Refuses (first_no_formula s lemmas) e
-
 -- cut code of contents that pass clauses 5, 6, 13, 7 and 8 over the signature
 pub record IsShaped (s : WordSignature) (c : Contents) (code : List Insn) (cut : CutView)
     : Type 0 where
-  pub low : too_high (roots c) ≡ None
-  pub forms : formless s c.bound 0 c.invs ≡ None
-  pub lemma_forms : lemma_formless s c.lemmas ≡ None
+  pub none : first_some (shape_found s c code) ≡ None
   pub made : IsMade code (map (λ p. p.0) c.invs) cut
-  pub short : unfolded_of code cut.marks ≤ MAX_UNFOLDED
 
 -- clauses 5, 6, 13, 7 and 8
 abbrev pub IsShapeAnswer : WordSignature → Contents → List Insn → Result CutView GateFault → Type 0
 IsShapeAnswer s c code (Ok cut) = IsShaped s c code cut
-IsShapeAnswer s c code (Err e) = Refuses (first_shape s c code) e
+IsShapeAnswer s c code (Err e) = IsRefusalOf (first_some (shape_found s c code)) e
 
 -- results are counted only where no root of the contents is too high
 abbrev pub CountsLow : {A : Type 0} → Contents → Result A GateFault → Type 0

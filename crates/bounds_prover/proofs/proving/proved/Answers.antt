@@ -16,6 +16,7 @@ use Rattle.lf_lemmas.specs.Tables.{lemmas_in, LemmasKnown}
 use Rattle.lf_lemmas.specs.Laws.Lawful.{lemmas_stay, lemmas_known}
 use Rattle.pcc_gate.specs.Passing.{PassesUntyped}
 use Rattle.pcc_gate.proofs.Kept.{known-more, trees-same}
+use Rattle.pcc_gate.proofs.ByClause.{by-clause}
 use Rattle.pcc_gate.proofs.Refusing.{keys}
 use Rattle.pcc_gate.proofs.Stages.{low-invs}
 use Rattle.prover_class.specs.Parts.{condition_proof, first_not_easy}
@@ -27,14 +28,17 @@ use Rattle.bounds_prover.proofs.proving.proved.Goals as goal
 pub prove_condition-requires-clause-invs : goal.prove_condition-requires-clause-invs
 prove_condition-requires-clause-invs c =
     let k = c.args.passed.container in
-    subst (λ l. AreLowInvs k.table l) (sym c.deref.ensures.value) (low-invs k.table k.invs.items _ c.requires.held.known.0 c.requires.passes.heights)
+    subst (λ l. AreLowInvs k.table l) (sym c.deref.ensures.value) (low-invs k.table k.invs.items _ c.requires.held.known.0 (by-clause c.requires.passes).heights)
 
 pub prove_condition-requires-clause-forms : goal.prove_condition-requires-clause-forms
 prove_condition-requires-clause-forms c =
     let k = c.args.passed.container in
     subst (λ l. AreForms Longest k.bound (id_trees k.table l)) (sym c.deref.ensures.value)
     (forms-wider (signature_of k.version) k.bound (id_trees k.table k.invs.items)
-    c.requires.passes.forms)
+    (by-clause c.requires.passes).forms)
+
+pub prove_condition-requires-clause-short : goal.prove_condition-requires-clause-short
+prove_condition-requires-clause-short c = (by-clause c.requires.passes).unfolded
 
 pub prove_condition-requires-clause-marks : goal.prove_condition-requires-clause-marks
 prove_condition-requires-clause-marks c =

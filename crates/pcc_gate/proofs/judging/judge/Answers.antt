@@ -13,6 +13,7 @@ use Rattle.pcc_gate.specs.Answers.{IsGateAnswer}
 use Rattle.pcc_gate.specs.Inside.Acceptance.{IsProved, IsProofAnswer}
 use Rattle.pcc_gate.proofs.Kept.{few-lemmas, grown-twice, lemmas-held, low-more, trees-same}
 use Rattle.pcc_gate.proofs.Refusing.{carries, keys}
+use Rattle.pcc_gate.proofs.ByClause.{by-clause}
 use Rattle.pcc_gate.proofs.Safe.{all-sound}
 use Rattle.pcc_gate.proofs.Stages.{answer-earlier, judge-formulas, judge-unfound, judge-unproved, judge-refused, judge-none, judge-accepts, low-invs, proved-by}
 use Rattle.pcc_gate.proofs.judging.judge.Goals as goal
@@ -47,7 +48,7 @@ pub lemmas_proved-requires-clause-few : goal.lemmas_proved-requires-clause-few
 lemmas_proved-requires-clause-few c =
     let k = c.args.passed.container in
     subst (λ l. length l ≤ MAX_LEMMAS) (sym c.as_slice-lemmas.ensures.value)
-    (few-lemmas k.version k.table k.lemmas.items c.requires.passes.container.contents.lemmas)
+    (few-lemmas k.version k.table k.lemmas.items c.requires.passes.has.container.contents.lemmas)
 
 pub lemmas_proved-requires-clause-kept : goal.lemmas_proved-requires-clause-kept
 lemmas_proved-requires-clause-kept c =
@@ -73,7 +74,7 @@ proved-requires-clause-invs c =
     let u = c.lemmas_proved.new.table in
     subst (λ l. AreLowInvs u l) (sym c.deref.ensures.value)
     (low-more k.table u k.invs.items
-    (low-invs k.table k.invs.items _ c.requires.held.known.0 c.requires.passes.heights)
+    (low-invs k.table k.invs.items _ c.requires.held.known.0 (by-clause c.requires.passes).heights)
     c.in_ok-lemmas_proved.ensures.extends)
 
 pub proved-requires-clause-forms : goal.proved-requires-clause-forms
@@ -82,7 +83,7 @@ proved-requires-clause-forms c =
     let u = c.lemmas_proved.new.table in
     let s = c.signature_of-signature.result in
     let here = subst (λ (z : WordSignature). AreForms z k.bound (id_trees k.table k.invs.items))
-    (sym c.signature_of-signature.ensures.exact) c.requires.passes.forms in
+    (sym c.signature_of-signature.ensures.exact) (by-clause c.requires.passes).forms in
     let later = subst (AreForms s k.bound)
     (trees-same k.table u k.invs.items c.in_ok-lemmas_proved.ensures.extends
     c.requires.held.known.0) here in
@@ -96,6 +97,9 @@ proved-requires-clause-marks c =
     keys k.table k.invs.items
     ∙ ap (λ (l : List (ℕ × ℕ)). map (λ (p : ℕ × ℕ). p.0) l) (sym c.deref.ensures.value) in
     subst (λ l. AreFlags l (length cut.code) cut.marks) same c.requires.passes.annotated
+
+pub proved-requires-clause-short : goal.proved-requires-clause-short
+proved-requires-clause-short c = (by-clause c.requires.passes).unfolded
 
 pub proved-requires-clause-holds : goal.proved-requires-clause-holds
 proved-requires-clause-holds c =

@@ -1,7 +1,8 @@
 use Rattle.std.proofs.Common.{◌≡◌, Some, sym, ◌∙◌, ap}
+use Rattle.std.specs.Option.{option_map}
 use Rattle.term_table.specs.Table.{Extends, ctx_of, id_trees}
 use Rattle.pcc_gate.specs.declared.refusal.Refusal.TheVariants as refusal
-use Rattle.pcc_gate.specs.First.{formless, refused_by}
+use Rattle.pcc_gate.specs.First.{formless}
 use Rattle.pcc_gate.proofs.Kept.{grown-twice, known-more, ids-more, ctx-more, trees-same}
 use Rattle.pcc_gate.specs.declared.fault.GateFault.TheVariants as fault
 use Rattle.hereditary_subst.specs.Limits.{is_limited, NeedsLimit}
@@ -40,7 +41,7 @@ returns-in-Some-clause-answer c =
     let found : formless s most 0 (id_trees o invs) ≡ Some c.in-Some.inv =
     ap (formless s most 0) (trees-same o v invs grown c.requires.known) ∙ sym c.in_ok-inv.ensures.exact
     ∙ c.in-Some.is in
-    λ next. ap (λ x. refused_by refusal.InvNotForm x next) found
+    ap (option_map refusal.InvNotForm) found
 
 pub returns-clause-answer : goal.returns-clause-answer
 returns-clause-answer c =

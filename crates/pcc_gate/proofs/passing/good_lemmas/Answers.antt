@@ -1,4 +1,4 @@
-use Rattle.std.proofs.Common.{◌≡◌, ◌≤◌, length, None, Err, refl, sym, ◌∙◌, subst}
+use Rattle.std.proofs.Common.{◌≡◌, ◌≤◌, length, None, refl, sym, ◌∙◌, subst}
 use Rattle.std.proofs.lemmas.Bool.{false≢true}
 use Rattle.term_table.specs.Table.{Extends}
 use Rattle.lf_signature.specs.declared.editions.WordSignature.{WordSignature}
@@ -10,10 +10,10 @@ use Rattle.proof_container.specs.Contents.{Contents}
 use Rattle.proof_container.specs.declared.limits.TheConstants.{MAX_LEMMAS}
 use Rattle.pcc_gate.specs.declared.limits.TheConstants.{MAX_WEIGHT}
 use Rattle.pcc_gate.specs.Answers.{HasGoodLemmas, IsLemmaFrontAnswer}
-use Rattle.pcc_gate.specs.First.{lemma_unproved, lemma_refusal}
+use Rattle.pcc_gate.specs.First.{lemma_unproved, unproved_found, lemma_refusal}
 use Rattle.pcc_gate.specs.Passing.{Passes}
 use Rattle.pcc_gate.specs.Weights.{lemmas_weight}
-use Rattle.pcc_gate.specs.Inside.Acceptance.{AreLemmasProved}
+use Rattle.pcc_gate.specs.Inside.Stages.{IsRefusalOf}
 use Rattle.pcc_gate.proofs.Kept.{few-lemmas, known-more, option-more, trees-same, option-same}
 use Rattle.pcc_gate.proofs.Refusing.{carries}
 use Rattle.pcc_gate.proofs.Stages.{alone-heavy, alone-unproved, alone-good, judge-formulas}
@@ -49,7 +49,7 @@ pub lemmas_proved-requires-clause-few : goal.lemmas_proved-requires-clause-few
 lemmas_proved-requires-clause-few c =
     let k = c.args.passed.container in
     subst (λ l. length l ≤ MAX_LEMMAS) (sym c.deref-2.ensures.value)
-    (few-lemmas k.version k.table k.lemmas.items c.requires.passes.container.contents.lemmas)
+    (few-lemmas k.version k.table k.lemmas.items c.requires.passes.has.container.contents.lemmas)
 
 pub lemmas_proved-requires-clause-kept : goal.lemmas_proved-requires-clause-kept
 lemmas_proved-requires-clause-kept c =
@@ -65,7 +65,7 @@ returns-in_err-lemmas_proved-clause-answer c =
     let e = c.in_err-lemmas_proved.field-0.0 in
     let light = subst (λ l. lemmas_weight s (lemmas_in t l) ≤ MAX_WEIGHT) c.deref.ensures.value
     c.in_ok-lemmas_light.ensures.answer in
-    let unproved = subst (λ l. AreLemmasProved s (lemmas_in t l) (Err e)) c.deref-2.ensures.value
+    let unproved = subst (λ l. IsRefusalOf (unproved_found s (lemmas_in t l)) e) c.deref-2.ensures.value
     c.in_err-lemmas_proved.ensures.answer in
     carries (IsLemmaFrontAnswer c.args.policy.now c.args.bytes.now) e
     (alone-unproved p.container s c.signature_of-signature.ensures.exact p.container.lemmas.items

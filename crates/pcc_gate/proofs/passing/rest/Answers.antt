@@ -8,10 +8,10 @@ use Rattle.lf_lemmas.specs.Laws.Lawful.{lemmas_stay, lemmas_known}
 use Rattle.proof_container.specs.Contents.{Contents, roots}
 use Rattle.proof_container.specs.Views.{contents_of}
 use Rattle.proof_container.specs.Versions.{profile_of, signature_of}
-use Rattle.pcc_gate.specs.Inside.Stages.{Refuses, with_roots, IsShaped}
+use Rattle.pcc_gate.specs.Inside.Stages.{IsRefusalOf, Refuses, with_roots, IsShaped}
 use Rattle.pcc_gate.specs.Inside.Passed.{IsRestAnswer, CountsUntyped}
-use Rattle.pcc_gate.specs.First.{first_code, first_shape, too_high}
-use Rattle.pcc_gate.proofs.FirstFront.{key_below, key_rises}
+use Rattle.pcc_gate.specs.First.{first_some, from_code, shape_found, too_high}
+use Rattle.pcc_gate.proofs.Flags.{key_below, key_rises}
 use Rattle.pcc_gate.proofs.Kept.{known-more, option-more, trees-same, option-same, renamed}
 use Rattle.pcc_gate.proofs.Refusing.{carries, keys}
 use Rattle.pcc_gate.proofs.Searches.{none_low}
@@ -30,7 +30,7 @@ returns-in_err-insns-clause-answer c =
     let k : Contents = contents_of c.args.container in
     let e = c.in_err-insns.field-0.0 in
     let bytes = c.args.container.code.now in
-    let here = subst (λ (p : Profile). Refuses (first_code k (decoded_code p bytes)) e)
+    let here = subst (λ (p : Profile). Refuses (from_code k (decoded_code p bytes)) e)
     c.profile_of-profile.ensures.exact (c.in_err-insns.ensures.answer k) in
     carries (IsRestAnswer k) e here c.from_residual.result c.from_residual.ensures.1
 
@@ -65,7 +65,7 @@ returns-in_err-cut-clause-answer c =
     let e = c.in_err-cut.field-0.0 in
     let bytes = c.args.container.code.now in
     let first = λ (z : WordSignature) (l m : List (ℕ × ℕ)).
-    Refuses (first_shape z (with_roots t c.args.container.bound l m c.args.container.proof) insns) e in
+    IsRefusalOf (first_some (shape_found z (with_roots t c.args.container.bound l m c.args.container.proof) insns)) e in
     let here = renamed first c.signature_of-signature.ensures.exact c.deref.ensures.value
     c.deref-2.ensures.value c.in_err-cut.ensures.answer in
     let read = subst (λ (p : Profile). decoded_code p bytes ≡ Ok insns)
@@ -116,13 +116,7 @@ returns-clause-answer c =
       encoded =
           subst (λ x. EncodesCode (profile_of c.args.container.version) bytes x) (sym code) encoded;
       is = subst (λ x. IsCode x) (sym code) c.in_ok-insns.ensures.answer.2;
-      shaped = record {
-        low = mine.low;
-        forms = mine.forms;
-        lemma_forms = mine.lemma_forms;
-        made = mine.made;
-        short = mine.short;
-      };
+      shaped = record { none = mine.none; made = mine.made };
     }
 
 pub returns-clause-kept : goal.returns-clause-kept

@@ -1,9 +1,10 @@
 use Rattle.std.proofs.Common.{◌≡◌, Some, sym, ◌∙◌, ap}
+use Rattle.std.specs.Option.{option_map}
 use Rattle.lf_lemmas.specs.Tables.{lemmas_in}
 use Rattle.pcc_gate.specs.declared.refusal.Refusal.TheVariants as refusal
-use Rattle.pcc_gate.specs.First.{lemma_unproved, refused_by}
+use Rattle.pcc_gate.specs.First.{lemma_unproved}
 use Rattle.pcc_gate.specs.Shortages.{gate_shortage_of}
-use Rattle.pcc_gate.specs.Inside.Acceptance.{AreLemmasProved}
+use Rattle.pcc_gate.specs.Inside.Stages.{AnswersSearch}
 use Rattle.pcc_gate.proofs.Refusing.{carries}
 use Rattle.pcc_gate.proofs.Stages.{shortage-refuses, shortage-results}
 use Rattle.pcc_gate.specs.declared.fault.GateFault.TheVariants as fault
@@ -15,8 +16,8 @@ returns-in_err-lemma-clause-answer c =
     let s = c.args.signature in
     let lemmas = lemmas_in c.args.table.now c.args.lemmas.now in
     let what = c.in_err-lemma.field-0.0 in
-    carries (AreLemmasProved s lemmas) (gate_shortage_of what)
-    (shortage-refuses (refused_by refusal.LemmaNotProof (lemma_unproved s lemmas)) what)
+    carries (AnswersSearch refusal.LemmaNotProof (lemma_unproved s lemmas)) (gate_shortage_of what)
+    (shortage-refuses (option_map refusal.LemmaNotProof (lemma_unproved s lemmas)) what)
     c.from_residual.result c.from_residual.ensures.1
 
 pub returns-in-Some-clause-answer : goal.returns-in-Some-clause-answer
@@ -25,7 +26,7 @@ returns-in-Some-clause-answer c =
     let found : lemma_unproved s (lemmas_in c.args.table.now c.args.lemmas.now)
     ≡ Some c.in-Some.lemma =
     sym c.in_ok-lemma.ensures.exact ∙ c.in-Some.is in
-    λ next. ap (λ o. refused_by refusal.LemmaNotProof o next) found
+    ap (option_map refusal.LemmaNotProof) found
 
 pub returns-in-None-clause-answer : goal.returns-in-None-clause-answer
 returns-in-None-clause-answer c = sym c.in_ok-lemma.ensures.exact ∙ c.in-None.is

@@ -9,7 +9,7 @@ use Rattle.lf_lemmas.specs.Tables.{lemmas_in}
 use Rattle.lf_truth.proofs.Proved.{one-formula}
 use Rattle.vcgen.specs.Encoded.{AreForms, EncodesCondition}
 use Rattle.pcc_gate.specs.First.{vc_of}
-use Rattle.pcc_gate.proofs.First.{judged-true, vc_of-encodes, proves-false}
+use Rattle.pcc_gate.proofs.Conditions.{judged-true, vc_of-encodes, proves-false}
 use Rattle.pcc_gate.proofs.Kept.{low-more, low-same}
 use Rattle.pcc_gate.proofs.Refusing.{not-both}
 use Rattle.pcc_gate.proofs.proving.proved.Goals as goal

@@ -1,11 +1,9 @@
 use Rattle.pcc_gate.proofs.Safe.{accepted-safe, accepted-returns, all-sound}
-use Rattle.pcc_gate.proofs.FirstFront.{passed-none, none-passed, passed-one, before-is, passes-cut, cut-passes}
+use Rattle.pcc_gate.proofs.Exactly.{passed-none, none-passed, passed-one, before-is, accepted-all, accepted-none, none-accepted, refusal-is, lemma-is}
 use Rattle.pcc_gate.proofs.Witness.{loop_is_accepted}
 use Rattle.pcc_gate.proofs.DigestWitness.{digest_is_accepted}
 use Rattle.pcc_gate.proofs.BoundWitness.{bound_is_accepted}
 use Rattle.pcc_gate.proofs.LemmaWitness.{lemma_is_accepted}
-use Rattle.pcc_gate.proofs.First.{accepted-none, none-accepted, refusal-is}
-use Rattle.pcc_gate.proofs.Lemmas.{lemma-is}
 use Rattle.pcc_gate.proofs.WrittenOut.{accepted-written, written-accepted}
 use Rattle.pcc_gate.proofs.theorems.laws.Goals as goal
 
@@ -39,9 +37,8 @@ returns-clause-written_out c policy bytes k code marks = (
   written-accepted policy bytes k code marks,
 )
 
-pub returns-clause-up_to : goal.returns-clause-up_to
-returns-clause-up_to c policy bytes k code marks =
-    (λ p. (passes-cut policy bytes k code marks p, p.unfolded), λ h. cut-passes policy bytes k code marks h.0 h.1)
+pub returns-clause-all : goal.returns-clause-all
+returns-clause-all c policy bytes = accepted-all policy bytes
 
 pub returns-clause-some : goal.returns-clause-some
 returns-clause-some c = loop_is_accepted

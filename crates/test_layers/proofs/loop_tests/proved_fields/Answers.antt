@@ -6,6 +6,7 @@ use Rattle.proof_container.specs.Versions.{signature_of}
 use Rattle.vcgen.specs.Answers.{AreLowInvs}
 use Rattle.vcgen.specs.Encoded.{AreForms}
 use Rattle.vcgen.proofs.Encodings.{forms-wider}
+use Rattle.pcc_gate.proofs.ByClause.{by-clause}
 use Rattle.pcc_gate.proofs.Refusing.{keys}
 use Rattle.pcc_gate.proofs.Stages.{low-invs}
 use Rattle.test_layers.proofs.loop_tests.proved_fields.Goals as goal
@@ -14,14 +15,14 @@ pub vc-requires-clause-invs : goal.vc-requires-clause-invs
 vc-requires-clause-invs c =
     let k = c.args.passed.container in
     subst (λ l. AreLowInvs k.table l) (sym c.deref.ensures.value)
-    (low-invs k.table k.invs.items _ c.requires.held.known.0 c.requires.passes.heights)
+    (low-invs k.table k.invs.items _ c.requires.held.known.0 (by-clause c.requires.passes).heights)
 
 pub vc-requires-clause-forms : goal.vc-requires-clause-forms
 vc-requires-clause-forms c =
     let k = c.args.passed.container in
     subst (λ l. AreForms Sigma3 k.bound (id_trees k.table l)) (sym c.deref.ensures.value)
     (forms-wider (signature_of k.version) k.bound (id_trees k.table k.invs.items)
-    c.requires.passes.forms)
+    (by-clause c.requires.passes).forms)
 
 pub vc-requires-clause-marks : goal.vc-requires-clause-marks
 vc-requires-clause-marks c =

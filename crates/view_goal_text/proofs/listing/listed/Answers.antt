@@ -7,6 +7,7 @@ use Rattle.vcgen.proofs.Encodings.{forms-wider}
 use Rattle.lf_signature.specs.Constants.{Longest}
 use Rattle.proof_container.specs.Versions.{signature_of}
 use Rattle.pcc_gate.specs.First.{formulas}
+use Rattle.pcc_gate.proofs.ByClause.{by-clause}
 use Rattle.pcc_gate.proofs.Refusing.{keys}
 use Rattle.pcc_gate.proofs.Stages.{low-invs}
 use Rattle.view_goals.specs.Rows.{part_view}
@@ -17,14 +18,17 @@ pub parts_of-requires-clause-invs : goal.parts_of-requires-clause-invs
 parts_of-requires-clause-invs c =
     let k = c.args.passed.container in
     subst (λ l. AreLowInvs k.table l) (sym c.deref.ensures.value)
-    (low-invs k.table k.invs.items _ c.requires.held.known.0 c.requires.passes.heights)
+    (low-invs k.table k.invs.items _ c.requires.held.known.0 (by-clause c.requires.passes).heights)
 
 pub parts_of-requires-clause-forms : goal.parts_of-requires-clause-forms
 parts_of-requires-clause-forms c =
     let k = c.args.passed.container in
     subst (λ l. AreForms Longest k.bound (id_trees k.table l)) (sym c.deref.ensures.value)
     (forms-wider (signature_of k.version) k.bound (id_trees k.table k.invs.items)
-    c.requires.passes.forms)
+    (by-clause c.requires.passes).forms)
+
+pub parts_of-requires-clause-short : goal.parts_of-requires-clause-short
+parts_of-requires-clause-short c = (by-clause c.requires.passes).unfolded
 
 pub parts_of-requires-clause-marks : goal.parts_of-requires-clause-marks
 parts_of-requires-clause-marks c =

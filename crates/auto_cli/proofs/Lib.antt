@@ -1,0 +1,7 @@
+mod Reading
+mod Decided
+mod Drafting
+mod Versions
+mod Running
+mod Suited
+mod Written
