@@ -1,11 +1,6 @@
-"""Sources of `pcc asm` as Python objects, for tools/from_c and tools/infer: instructions, control flow, live registers.
-
-`Source` reads a text that `pcc asm` takes; it reports no errors of its own. docs/FORMATS.md has the grammar, docs/MACHINE.md
-the instructions.
-"""
+"""Alpha code as Python objects, for tools/from_c: instructions, control flow, live registers."""
 from __future__ import annotations
 
-import re
 from dataclasses import dataclass
 from typing import Dict, List, Optional, Set
 
@@ -18,13 +13,6 @@ MEMORY = ("lda", "ldah", "stq") + LOADS
 NAMES = "v0 t0 t1 t2 t3 t4 t5 t6 t7 s0 s1 s2 s3 s4 s5 s6 a0 a1 a2 a3 a4 a5 t8 t9 t10 t11 ra t12 at gp sp zero".split()
 REGISTERS: Dict[str, int] = {form % k: k for k in range(32) for form in ("$%d", "r%d")}  # by name
 REGISTERS.update({name: k for k, name in enumerate(NAMES)})
-LABEL = re.compile(r"\s*([A-Za-z_]\w*)\s*:(.*)")
-ADDRESS = re.compile(r"(\S+?)\s*,\s*([-\w]*)\s*\(\s*(\S+?)\s*\)")
-
-
-def integer(text: str) -> int:
-    """Returns the number that an INTEGER of a source means."""
-    return int(text, 16) if text.startswith("0x") else int(text)
 
 
 @dataclass
@@ -38,7 +26,7 @@ class Insn:
     literal: Optional[int] = None  # of an operate, in the place of rb
     disp: int = 0
     label: str = ""  # that it branches to
-    line: int = 0  # where it is from: in a source counted from 0, in a C file from 1
+    line: int = 0  # of the C file that it is from, counted from 1
     file: str = ""  # that C file
 
     def writes(self) -> Optional[int]:
@@ -72,31 +60,6 @@ class Insn:
         return ("      %s %s" % (self.op, self.label)).rstrip()
 
 
-def insn_of(op: str, rest: str, line: int) -> Insn:
-    """Returns the instruction with this mnemonic and these operands. Raises ValueError if there is none."""
-    words = [word.strip() for word in rest.split(",")]
-    try:
-        if op in MEMORY:
-            match = ADDRESS.match(rest)
-            assert match is not None
-            disp = integer(match.group(2) or "0")
-            return Insn(op, ra=REGISTERS[match.group(1)], rb=REGISTERS[match.group(3)], disp=disp, line=line)
-        if op in OPERATES:
-            a, b, c = words
-            if b in REGISTERS:
-                return Insn(op, ra=REGISTERS[a], rb=REGISTERS[b], rc=REGISTERS[c], line=line)
-            return Insn(op, ra=REGISTERS[a], literal=integer(b), rc=REGISTERS[c], line=line)
-        if op in BRANCHES:
-            return Insn(op, ra=REGISTERS[words[0]], label=words[1], line=line)
-        if op == "br":
-            return Insn(op, label=words[-1], line=line)
-        if op in ("ret", "nop"):
-            return Insn(op, line=line)
-    except (KeyError, ValueError, IndexError, AssertionError):
-        pass
-    raise ValueError("%s %s" % (op, rest))
-
-
 class Code:
     """Instructions with labels, and the control flow among them."""
 
@@ -122,26 +85,6 @@ class Code:
             return [self.labels[insn.label]]
         return ([self.labels[insn.label]] if insn.op in BRANCHES else []) + [index + 1]
 
-    def heads(self) -> Set[int]:
-        """Returns the targets of back edges of a depth-first walk: an invariant at each cuts every loop."""
-        state: Dict[int, bool] = {}  # whether an index is on the way to where the walk is
-        found: Set[int] = set()
-        for root in range(len(self.insns)):
-            way = [] if root in state else [(root, iter(self.successors(root)))]
-            state.setdefault(root, True)
-            while way:
-                index, rest = way[-1]
-                following = next((j for j in rest if j < len(self.insns)), None)
-                if following is None:
-                    state[index] = False
-                    way.pop()
-                elif following not in state:
-                    state[following] = True
-                    way.append((following, iter(self.successors(following))))
-                elif state[following]:
-                    found.add(following)
-        return found
-
     def live(self) -> List[Set[int]]:
         """Returns the registers whose values may still be used, before each index."""
         found: List[Set[int]] = [set() for _ in range(len(self.insns) + 1)]
@@ -166,50 +109,3 @@ def labels_by_index(labels: Dict[str, int]) -> Dict[int, List[str]]:
     for label, index in labels.items():
         found.setdefault(index, []).append(label)
     return found
-
-
-class Source(Code):
-    """A source: its lines, its code, and its invariants by index."""
-
-    def __init__(self, text: str) -> None:
-        super().__init__([], {})
-        self.lines = text.splitlines()
-        self.invariants: Dict[int, str] = {}
-        self.invariant_lines: List[int] = []
-        for number, line in enumerate(self.lines):
-            self.read(number, line.split("#")[0])
-
-    def read(self, number: int, body: str) -> None:
-        """Reads a line without its comment."""
-        match = LABEL.match(body)
-        if match:
-            self.labels[match.group(1)] = len(self.insns)
-            body = match.group(2)
-        words = body.split(None, 1)
-        if words[:1] == [".inv"]:
-            self.invariants[len(self.insns)] = words[1].strip()
-            self.invariant_lines.append(number)
-        elif words:
-            self.insns.append(insn_of(words[0], words[1].strip() if len(words) > 1 else "", number))
-
-    def with_invariants(self, invariants: Dict[int, str]) -> str:
-        """Returns the text with these invariants in the place of its own."""
-        before = {self.insns[index].line: formula for index, formula in invariants.items()}
-        lines: List[str] = []
-        for number, line in enumerate(self.lines):
-            if number in before:
-                lines.append("      .inv " + before[number])
-            if number not in self.invariant_lines:
-                lines.append(line)
-            elif LABEL.match(line.split("#")[0]):
-                lines.append(line[:line.index(":") + 1])
-        return "\n".join(lines) + "\n"
-
-    def with_insns(self, changed: Dict[int, str]) -> str:
-        """Returns the text with these instructions in the place of its own."""
-        lines = list(self.lines)
-        for index, text in changed.items():
-            at = self.insns[index].line
-            match = LABEL.match(lines[at].split("#")[0])
-            lines[at] = ("%s:" % match.group(1) if match else "") + "      " + text
-        return "\n".join(lines) + "\n"

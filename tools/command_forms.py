@@ -1,7 +1,7 @@
 """The forms of the programs' command lines, for man pages and completions: see tools/manual.
 
 docs/FORMATS.md has pcc's forms, in the first block below "Command line". The help text of pcc_view has its own, with a
-text for each command, and that of pcc_native has its one form. share/words.tsv has the texts of pcc's commands and of
+text for each command, and those of pcc_auto and pcc_native have their one form. share/words.tsv has the texts of pcc's commands and of
 the flags.
 """
 import os
@@ -11,6 +11,7 @@ from typing import Dict, List, NamedTuple, Optional, Tuple
 TOP = os.path.dirname(os.path.dirname(os.path.abspath(__file__)))
 POLICIES = ["filter", "tag", "table"]
 HELP_SOURCE = "crates/view_cli/src/texts.rt"
+AUTO_HELP_SOURCE = "crates/auto_cli/src/texts.rt"
 NATIVE_HELP_SOURCE = "crates/native_cli/src/texts.rt"
 FLAG = re.compile(r"\[(--[a-z0-9-]+)(?: ([A-Z]+))?\]")  # as a form has it
 
@@ -142,18 +143,26 @@ def pcc_view() -> Program:
     return Program("pcc_view", commands, words("pcc_view"), examples)
 
 
-def pcc_native() -> Program:
-    """Returns pcc_native's only command, which has no name, by its help."""
-    text = help_text(NATIVE_HELP_SOURCE)
-    lines = [line[len("pcc_native "):] for line in text.splitlines() if line.startswith("pcc_native ")]
+def program_of_one(name: str, source: str) -> Program:
+    """Returns a program's only command, which has no name, by its help, which is in the source."""
+    text = help_text(source)
+    lines = [line[len(name) + 1:] for line in text.splitlines() if line.startswith(name + " ")]
     forms = [line for line in lines if line.startswith("POLICY ")]
-    examples = ["pcc_native " + line for line in lines if re.match(r"[a-z@]+ \S*/", line)]
+    examples = [name + " " + line for line in lines if re.match(r"[a-z@]+ \S*/", line)]
     if len(forms) != 1:
-        raise Fault(NATIVE_HELP_SOURCE + ": print_help has to have one line `pcc_native POLICY ..`")
-    return Program("pcc_native", [Command("", forms, "", "@NAME" in text)], words("pcc_native"), examples)
+        raise Fault("%s: print_help has to have one line `%s POLICY ..`" % (source, name))
+    return Program(name, [Command("", forms, "", "@NAME" in text)], words(name), examples)
 
 
-PROGRAMS = {"pcc": pcc, "pcc_native": pcc_native, "pcc_view": pcc_view}
+def pcc_auto() -> Program:
+    return program_of_one("pcc_auto", AUTO_HELP_SOURCE)
+
+
+def pcc_native() -> Program:
+    return program_of_one("pcc_native", NATIVE_HELP_SOURCE)
+
+
+PROGRAMS = {"pcc": pcc, "pcc_auto": pcc_auto, "pcc_native": pcc_native, "pcc_view": pcc_view}
 
 
 def programs() -> List[Program]:
