@@ -1,7 +1,7 @@
 /* pcc.h: makes, checks and runs containers of proof-carrying code. For C99 and C++.
  *
- * Link libpcc_c.a and heap.o. Each function is proved, in crates/pcc_c, to do what is said here of it. The caller has to
- * see to the rest:
+ * Link libpcc.a. Each function is proved, in crates/pcc_c, to do what is said here of it. The caller has to see to the
+ * rest:
  *
  * - A pointer isn't null, even if its length is 0. It points to as many bytes as its length says.
  * - A buffer for a result overlaps no other argument.
@@ -10,6 +10,7 @@
  * - A `struct pcc_host` begins as PCC_HOST_INIT. It isn't copied, and only the functions change it. One thread makes all
  *   calls with it.
  * - The stack has 5 MiB free. That is enough for the worst input that is known; no theorem says so.
+ * - Native code gets what pcc_function says below.
  *
  * A function writes to `out`, `written`, `host` and `result` alone, and keeps no pointer. */
 #ifndef PCC_H
@@ -61,7 +62,8 @@ enum pcc_status {
     PCC_BAD_VERSION = 41,      /* no such version, or not with this bound */
     PCC_HOST_OPEN = 42,        /* the handle has a host already */
     PCC_NO_HOST = 43,          /* the handle has no host */
-    PCC_LONG_PACKET = 44       /* the packet has more than PCC_PACKET bytes */
+    PCC_LONG_PACKET = 44,      /* the packet has more than PCC_PACKET bytes */
+    PCC_FORBIDDEN = 45         /* of pcc_map.h: the system forbids executable pages */
 };
 
 /* A policy is given as bytes: `filter`, `tag` or `table`, or the two lines of a policy file (docs/POLICIES.md). */
@@ -104,6 +106,41 @@ uint32_t pcc_upgrade(const uint8_t *container, size_t container_length, uint8_t 
 /* Makes the digest by which containers name the policy, 32 bytes: the SHA-256 of its text. Else the status is
  * PCC_UNKNOWN_POLICY or PCC_BAD_POLICY. */
 uint32_t pcc_policy(const uint8_t *policy, size_t policy_length, uint8_t *out, size_t room, size_t *written);
+
+/* Checks the container as pcc_check does, and returns what pcc_check would. If it is accepted, the result is its code for
+ * x86-64, of less than 2^30 bytes: a pcc_function that begins at the first byte and may stand at any address. pcc_map.h has
+ * pages to call it in. Other translations of the same container may have other lengths: on PCC_NO_ROOM, call again until
+ * the room suffices. */
+uint32_t pcc_native(const uint8_t *policy, size_t policy_length, const uint8_t *container, size_t container_length,
+                    uint8_t *out, size_t room, size_t *written);
+
+/* The quadwords of an area. */
+#define PCC_AREA 31
+
+/* How a call of native code ended: `spent` is 0 if the code returned `value`, and 1 if it ran out of fuel; `value` is then
+ * 0. */
+struct pcc_answer {
+    uint64_t value;
+    uint64_t spent;
+};
+
+/* Native code, by the System V calling convention. A call reads and writes only what the policy permits, and the area, and
+ * it ends, if the caller sees to this:
+ *
+ * - Arguments and memory satisfy the policy's precondition:
+ *     filter   r16 is a packet, r17 its length in bytes, at least 64, and r18 has 16 bytes of scratch
+ *     tag      r16 is a tag and a quadword of data, 16 bytes; r17 and r18 are 0
+ *     table    r16 is a table, r17 its length in quadwords, and r18 is 0
+ *   What a policy file asks of other registers has to hold of 0.
+ * - Packet, scratch, tag, table and area begin at multiples of 8. A packet is padded with zeros to a multiple of 8 bytes,
+ *   since its last quadword is loaded whole.
+ * - The area has PCC_AREA quadwords. Buffers, area and code don't overlap.
+ * - Nobody else writes the buffers or the area during the call: each thread has its own area and scratch.
+ * - The code is unchanged since pcc_native or the program pcc_native made it, and isn't written during the call.
+ *
+ * Each arrival at a loop head takes a unit of fuel. Code without loops needs none, nor does code with a step bound, which
+ * returns within it whatever the fuel. */
+typedef struct pcc_answer pcc_function(uint64_t r16, uint64_t r17, uint64_t r18, uint64_t *area, uint64_t fuel);
 
 /* A host runs the code of one accepted container on packets. It tests no access: what it makes of a packet is proved to
  * be what a machine makes of it that tests each one. It is freed by pcc_host_free alone. */

@@ -1,6 +1,7 @@
 /* try COUNT [CALL VERSION BOUND POLICY FILE]..: tries a call of the library on each five words, and prints a line for
  * each: the status, and the result, in hexadecimal if it isn't text. COUNT is the most allocations of a call that are
- * made to fail, 0 for none. CALL is explain, asm, prove, bpf, upgrade or policy; with explain, pcc_check is tried too.
+ * made to fail, 0 for none. CALL is explain, asm, prove, bpf, native, upgrade or policy; with explain, pcc_check is tried
+ * too.
  * POLICY is a name, or @FILE, or @ alone for no bytes. A word that the call doesn't have is `-`.
  * The status is 1, after a line about it, if a call doesn't do what pcc.h says. Needs heap.c with PCC_FAIL_AT. */
 #include "pcc.h"
@@ -86,6 +87,10 @@ static uint32_t compile(const struct task *t, uint8_t *out, size_t room, size_t 
     return pcc_bpf(t->input.at, t->input.length, out, room, written);
 }
 
+static uint32_t translate(const struct task *t, uint8_t *out, size_t room, size_t *written) {
+    return pcc_native(t->policy.at, t->policy.length, t->input.at, t->input.length, out, room, written);
+}
+
 static uint32_t upgrade(const struct task *t, uint8_t *out, size_t room, size_t *written) {
     return pcc_upgrade(t->input.at, t->input.length, out, room, written);
 }
@@ -98,8 +103,8 @@ static call *call_named(const char *name) {
     static const struct {
         const char *name;
         call *run;
-    } calls[] = {{"explain", explain}, {"asm", assemble},    {"prove", prove},
-                 {"bpf", compile},     {"upgrade", upgrade}, {"policy", digest}};
+    } calls[] = {{"explain", explain},  {"asm", assemble},    {"prove", prove},  {"bpf", compile},
+                 {"native", translate}, {"upgrade", upgrade}, {"policy", digest}};
     for (size_t i = 0; i < sizeof calls / sizeof calls[0]; i++)
         if (strcmp(calls[i].name, name) == 0)
             return calls[i].run;

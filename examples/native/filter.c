@@ -2,13 +2,16 @@
  * length in four bytes, little-endian, and its bytes.
  *
  *     pcc_native filter examples/port/container ../port.o
- *     cc -o ../filter examples/native/filter.c ../port.o && ../filter examples/frames/packets */
-#include "pcc_native.h"
+ *     cc -Ic -o ../filter examples/native/filter.c ../port.o && ../filter examples/frames/packets */
+#include "pcc.h"
 #include <inttypes.h>
 #include <stdio.h>
 #include <string.h>
 
 enum { MOST = 65535, LEAST = 64 };
+
+/* The function of the object file. */
+extern pcc_function pcc_code;
 
 /* A packet, with zeros up to a multiple of 8 bytes. */
 static uint64_t packet[MOST / 8 + 1];
@@ -37,16 +40,16 @@ int main(int argc, char **argv) {
     }
     for (int k = 0; (length = next_packet(file)) >= 0; k++) {
         uint64_t scratch[2] = {0, 0}, area[PCC_AREA];
-        struct pcc_answer end;
+        struct pcc_answer answer;
         if (length < LEAST) {
             printf("%d: short\n", k);
             continue;
         }
-        end = pcc_code((uintptr_t)packet, (uint64_t)length, (uintptr_t)scratch, area, 1000000);
-        if (end.spent) {
+        answer = pcc_code((uintptr_t)packet, (uint64_t)length, (uintptr_t)scratch, area, 1000000);
+        if (answer.spent) {
             printf("%d: out of fuel\n", k);
         } else {
-            printf("%d: %" PRIu64 "\n", k, end.value);
+            printf("%d: %" PRIu64 "\n", k, answer.value);
         }
     }
     return fclose(file) != 0;

@@ -4,7 +4,7 @@
     verdict = pcc.explain("filter", container)  # bytes
     if not verdict:
         print(verdict.line)                     # for example: refused 11 NotProof
-    with pcc.Host("filter", container) as host:
+    with pcc.Host("filter", container) as host:      # or pcc.Native, on x86-64
         print(host.run(packet).r0)
 
 A policy is the name of a built-in one, `filter`, `tag` or `table`, or a `Policy`. Each function but `check` and `explain`
@@ -23,12 +23,14 @@ import os
 import threading
 from typing import Any, Callable, NamedTuple, Union
 
-__all__ = ["ABI", "End", "Error", "Exhausted", "Host", "Policy", "Refused", "Result", "Status", "Verdict", "assemble",
-           "check", "compile_bpf", "explain", "prove", "upgrade"]
+__all__ = ["ABI", "End", "Error", "Exhausted", "Host", "Native", "Policy", "Refused", "Result", "Status", "Verdict", "assemble",
+           "check", "compile_bpf", "explain", "prove", "translate", "upgrade"]
 
 ABI = 1  # the interface that this file is for, PCC_ABI of pcc.h
 ROOM = 65536  # bytes of the buffer that is tried first
 DIGEST = 32  # bytes of a digest
+PACKET, AREA = 65535, 31  # bytes of a packet at most; quadwords of an area
+SHORTEST = {b"filter": 64, b"tag": 16, b"table": 0}  # bytes of a packet at least
 
 
 class Status(enum.IntEnum):
@@ -62,6 +64,7 @@ class Status(enum.IntEnum):
     HOST_OPEN = 42
     NO_HOST = 43
     LONG_PACKET = 44
+    FORBIDDEN = 45
 
 
 class End(enum.IntEnum):
@@ -141,6 +144,22 @@ class _Result(ctypes.Structure):
     _fields_ = [("end", ctypes.c_uint32), ("r0", ctypes.c_uint64), ("sum", ctypes.c_uint64)]
 
 
+class _Answer(ctypes.Structure):
+    """`struct pcc_answer`."""
+
+    _fields_ = [("value", ctypes.c_uint64), ("spent", ctypes.c_uint64)]
+
+
+_QUADS = ctypes.POINTER(ctypes.c_uint64)
+_Function = ctypes.CFUNCTYPE(_Answer, ctypes.c_void_p, ctypes.c_uint64, ctypes.c_void_p, _QUADS, ctypes.c_uint64)
+
+
+class _Map(ctypes.Structure):
+    """`struct pcc_map`."""
+
+    _fields_ = [("call", ctypes.c_void_p), ("size", ctypes.c_size_t)]
+
+
 @functools.lru_cache(maxsize=None)
 def _library() -> ctypes.CDLL:
     """Returns the library. Raises OSError if there is none, and ImportError if it has another interface."""
@@ -150,7 +169,9 @@ def _library() -> ctypes.CDLL:
     number, handle = ctypes.c_uint32, ctypes.POINTER(_Handle)
     for function, arguments in (("pcc_abi", []), ("pcc_check", text + text), ("pcc_explain", text + text + out),
                                 ("pcc_asm", [number, number] + text + text + out), ("pcc_prove", text + text + out),
-                                ("pcc_bpf", text + out), ("pcc_upgrade", text + out), ("pcc_policy", text + out),
+                                ("pcc_bpf", text + out), ("pcc_native", text + text + out),
+                                ("pcc_upgrade", text + out), ("pcc_policy", text + out),
+                                ("pcc_map_new", text + [ctypes.POINTER(_Map)]), ("pcc_map_free", [ctypes.POINTER(_Map)]),
                                 ("pcc_host_new", text + text + [ctypes.c_uint64, handle]), ("pcc_host_free", [handle]),
                                 ("pcc_host_run", [handle] + text + [ctypes.POINTER(_Result)])):
         call = getattr(found, function)
@@ -248,7 +269,96 @@ def upgrade(container: bytes) -> bytes:
     return _made("pcc_upgrade", memoryview(container).tobytes())
 
 
-class Host:
+def translate(policy: PolicyLike, container: bytes) -> bytes:
+    """Returns the code of an accepted container for x86-64, as pcc_native of pcc.h does. Raises Refused and Exhausted."""
+    return _made("pcc_native", _policy(policy), memoryview(container).tobytes())
+
+
+class _OfThread:
+    """What one thread alone may use. The end of a `with` statement closes it."""
+
+    def __init__(self) -> None:
+        self._thread = threading.current_thread()
+
+    def _demand_thread(self) -> None:
+        if threading.current_thread() is not self._thread:
+            raise RuntimeError("this %s belongs to thread %s" % (type(self).__name__.lower(), self._thread.name))
+
+    def close(self) -> None:
+        raise NotImplementedError
+
+    def __exit__(self, *_: object) -> None:
+        self.close()
+
+
+class Native(_OfThread):
+    """The code of an accepted container, which the processor runs on packets. x86-64 alone.
+
+    A packet is copied to memory of the object's own, where the code finds what its policy promises. Only the thread that
+    makes a Native may use it. The end of a `with` statement gives its pages back, or `close`.
+    """
+
+    def __init__(self, policy: PolicyLike, container: bytes, *, fuel: int = 1000000) -> None:
+        """Checks the container as `check` does. Each arrival at a loop's head takes a unit of fuel, for each packet anew.
+
+        The policy is a built-in one. Raises Refused if the container isn't accepted, with the line, or if the system forbids
+        pages for its code (FORBIDDEN), and Exhausted.
+        """
+        super().__init__()
+        self._map = _Map()
+        self._policy, self._fuel = _policy(policy), fuel
+        if not 0 <= fuel < 2**64:
+            raise ValueError("fuel has to be from 0 to 2**64 - 1")
+        if self._policy not in SHORTEST:
+            raise Refused(Status.UNKNOWN_POLICY, "unknown policy")
+        code = translate(policy, container)
+        status = Status(_library().pcc_map_new(code, len(code), ctypes.byref(self._map)))
+        if status == Status.NO_MEMORY:
+            raise Exhausted(status, "")
+        if status != Status.DONE:
+            raise Refused(status, "")
+        self._call = _Function(self._map.call)
+        self._packet = (ctypes.c_uint64 * (PACKET // 8 + 1))()
+        self._scratch, self._area = (ctypes.c_uint64 * 2)(), (ctypes.c_uint64 * AREA)()
+
+    def run(self, packet: bytes) -> Result:
+        """Returns what the code makes of the packet, which has at most 65,535 bytes: as Host.run, but that code which
+        computes with addresses may return other words, and OUT_OF_STEPS says that the fuel ran out.
+
+        Raises Refused with the status LONG_PACKET, or NO_HOST if it is closed.
+        """
+        self._demand_thread()
+        given = memoryview(packet).tobytes()
+        if self._map.call is None or len(given) > PACKET:
+            raise Refused(Status.NO_HOST if self._map.call is None else Status.LONG_PACKET, "")
+        if len(given) < SHORTEST[self._policy]:
+            return Result(End.SHORT, 0, 0)
+        if self._policy == b"tag":
+            given = given[:16]
+        quads = (len(given) + 7) // 8
+        ctypes.memmove(self._packet, given.ljust(8 * quads, b"\0"), 8 * quads)
+        ctypes.memset(self._scratch, 0, 16)
+        at = ctypes.addressof(self._packet)
+        second = {b"filter": len(given), b"tag": 0, b"table": quads}[self._policy]
+        third = ctypes.addressof(self._scratch) if self._policy == b"filter" else 0
+        answer = self._call(at, second, third, self._area, self._fuel)
+        total = 0 if self._policy == b"filter" else sum(self._packet[:quads]) % 2**64
+        return Result(End.OUT_OF_STEPS if answer.spent else End.RETURNED, answer.value, total)
+
+    def close(self) -> None:
+        """Gives the pages back. That of a closed one does nothing."""
+        self._demand_thread()
+        _library().pcc_map_free(ctypes.byref(self._map))
+
+    def __enter__(self) -> "Native":
+        return self
+
+    def __del__(self) -> None:
+        if self._map.call is not None and threading.current_thread() is self._thread:
+            self.close()
+
+
+class Host(_OfThread):
     """A host of an accepted container, which runs its code on packets.
 
     Only the thread that makes a host may use it. The end of a `with` statement frees it, or `close`.
@@ -259,7 +369,8 @@ class Host:
 
         The policy is a built-in one. Raises Refused if the container isn't accepted, with the line, and Exhausted.
         """
-        self._handle, self._thread = _Handle(), threading.current_thread()
+        super().__init__()
+        self._handle = _Handle()
         if not 0 <= steps < 2**64:
             raise ValueError("steps has to be from 0 to 2**64 - 1")
         given = _policy(policy), memoryview(container).tobytes()
@@ -287,15 +398,8 @@ class Host:
         self._demand_thread()
         _library().pcc_host_free(ctypes.byref(self._handle))
 
-    def _demand_thread(self) -> None:
-        if threading.current_thread() is not self._thread:
-            raise RuntimeError("this host belongs to thread %s" % self._thread.name)
-
     def __enter__(self) -> "Host":
         return self
-
-    def __exit__(self, *_: object) -> None:
-        self.close()
 
     def __del__(self) -> None:
         if self._handle.live and threading.current_thread() is self._thread:

@@ -196,6 +196,46 @@ class Hosting(unittest.TestCase):
         self.assertEqual(caught.exception.status, status)
 
 
+class Running(unittest.TestCase):
+    """Native code; it runs on x86-64 alone."""
+
+    def test_agrees_with_hosts(self) -> None:
+        for policy, name, frames in (("filter", "port", "frames"), ("filter", "checksum", "frames"), ("table", "sort", "sort"),
+                                     ("tag", "resource", "resource")):
+            container = example(name + "/container")
+            with pcc.Native(policy, container) as native, pcc.Host(policy, container) as host:
+                for packet in packets(frames + "/packets") + [b"", bytes(63), bytes(range(256)) * 3]:
+                    self.assertEqual(native.run(bytearray(packet)), host.run(packet))
+
+    def test_fuel(self) -> None:
+        with pcc.Native("filter", example("endless/container"), fuel=10) as native:
+            self.assertEqual(native.run(bytes(64)), (pcc.End.OUT_OF_STEPS, 0, 0))
+        self.assertRaises(ValueError, pcc.Native, "filter", example("port/container"), fuel=2**64)
+
+    def test_refuses(self) -> None:
+        for policy, name, status, line in (("filter", "patched", 11, "refused 11 NotProof"), ("Filter", "port", 32, "unknown policy"),
+                                           (own_policy(), "own_policy", 32, "unknown policy")):
+            with self.assertRaises(pcc.Refused) as caught:
+                pcc.Native(policy, example(name + "/container"))
+            self.assertEqual((caught.exception.status, caught.exception.line), (status, line))
+
+    def test_closed(self) -> None:
+        native = pcc.Native("filter", example("port/container"))
+        self.refused(pcc.Status.LONG_PACKET, native, bytes(65536))
+        native.close()
+        native.close()
+        self.refused(pcc.Status.NO_HOST, native, bytes(64))
+
+    def test_translates(self) -> None:
+        self.assertEqual(pcc.translate("filter", example("port/container")), pcc.translate(b"filter", example("port/container")))
+        self.assertTrue(pcc.translate(own_policy(), example("own_policy/container")))
+
+    def refused(self, status: pcc.Status, native: pcc.Native, packet: bytes) -> None:
+        with self.assertRaises(pcc.Refused) as caught:
+            native.run(packet)
+        self.assertEqual(caught.exception.status, status)
+
+
 class Library(unittest.TestCase):
     def test_header(self) -> None:
         with open(os.path.join(TOP, "c", "pcc.h")) as file:

@@ -1,15 +1,14 @@
 -- What the arguments of pcc_auto ask for, with what the search comes to as a parameter.
 use Rattle.std.specs.Prelude.{ℕ, true, List, [], ◌∷◌, ◌++◌, length, Option, Some, None, Result, Ok, Err}
-use Rattle.policy_set.specs.Names.{policy_of}
 use Rattle.policy_set.specs.Views.{PolicyView}
 use Rattle.pcc_gate.specs.declared.refusal.Refusal.{Refusal}
 use Rattle.pcc_lines.specs.Refusals.{refusal_line}
-use Rattle.pcc_words.specs.Invocations.{PolicyWord, named, from_file}
 use Rattle.pcc_stages.specs.Exits.{Exit}
-use Rattle.pcc_stages.specs.Requests.{Request, Standing, no_command, unknown_policy, command, usage_exit}
+use Rattle.pcc_stages.specs.Requests.{Request, Standing, no_command, command, usage_exit}
 use Rattle.pcc_stages.specs.Runs.{Effect, Task, request_of_task}
 use Rattle.pcc_stages.specs.Stage.{Stage, stops, gives, ◌>>=◌}
 use Rattle.pcc_stages.specs.Stages.Common.{refused, printing}
+use Rattle.pcc_stages.specs.Told.{word_files, standing_of_word}
 use Rattle.view_goal_text.specs.Listing.{goals_of_bytes}
 use Rattle.view_goal_text.specs.Styles.{StyleView}
 use Rattle.auto_search.specs.Outcomes.{OutcomeView, found, unfound}
@@ -52,31 +51,16 @@ auto_stage (Some (find args)) outcome = find_command args outcome
 auto_stage (Some help) outcome = printing auto_help_text
 auto_stage (Some version) outcome = printing auto_version_text
 
--- the file that a policy's word names, if it names one
-abbrev pub policy_file : PolicyWord → List (List ℕ)
-policy_file (named name) = []
-policy_file (from_file name) = name ∷ []
-
--- what a command is that names a policy, which there may not be
-abbrev pub standing_by : Option PolicyView → Standing
-standing_by None = unknown_policy
-standing_by (Some policy) = command
-
--- the same of one that tells its policy by a word
-abbrev pub standing_told : PolicyWord → Standing
-standing_told (named name) = standing_by (policy_of name)
-standing_told (from_file name) = command
-
 -- what the arguments are
 abbrev pub auto_standing : Option AutoInvocation → Standing
 auto_standing None = no_command
-auto_standing (Some (find args)) = standing_told args.policy
+auto_standing (Some (find args)) = standing_of_word args.policy
 auto_standing (Some help) = command
 auto_standing (Some version) = command
 
 -- the files that are read
 abbrev pub auto_files : Option AutoInvocation → List (List ℕ)
-auto_files (Some (find args)) = policy_file args.policy ++ args.input ∷ []
+auto_files (Some (find args)) = word_files args.policy ++ args.input ∷ []
 auto_files other = []
 
 -- what arguments ask for where the search comes to this

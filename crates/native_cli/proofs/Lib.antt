@@ -1,4 +1,3 @@
-mod PolicyCalls
 mod Reading
 mod Translators
 mod Making

@@ -27,7 +27,8 @@ use Rattle.std.specs.Result.{IsErrAnd}
 use Rattle.native_translator.specs.Translation.{IsTranslation}
 use Rattle.native_object.specs.Object.{object_bytes}
 use Rattle.native_cli.specs.Reports.{native_exit}
-use Rattle.native_cli.specs.Tasks.{Translatable, Translator, is_metered, accepted_or_line, translatable_in, object_in, object_written, translation_of}
+use Rattle.native_gate.specs.Translated.{is_metered}
+use Rattle.native_cli.specs.Tasks.{Translatable, Translator, accepted_or_line, translatable_in, object_in, object_written, translation_of}
 use Rattle.native_cli.specs.Invocations.{NativeGiven}
 use Rattle.native_cli.specs.Texts.{native_texts}
 use Rattle.native_cli.specs.Inside.Making.{IsObjectOf, GivesPureWith, MakesIfTold, TellsObject, WroteObject}

@@ -37,7 +37,8 @@ use Rattle.native_steps.specs.Sequences.{ReadsPlaced, RhsIsPlaced}
 use Rattle.native_code.specs.Calls.{ArePlacesOf}
 use Rattle.native_code.specs.Layout.{native_text}
 use Rattle.native_translator.specs.Translation.{IsTranslation}
-use Rattle.native_cli.specs.Tasks.{Translatable, Translator, IsTranslator, is_metered, line_if_refused, accepted_or_line, translatable_in}
+use Rattle.native_gate.specs.Translated.{is_metered}
+use Rattle.native_cli.specs.Tasks.{Translatable, Translator, IsTranslator, line_if_refused, accepted_or_line, translatable_in}
 
 -- ---- places in the area
 

@@ -29,11 +29,13 @@ use Rattle.native_translator.specs.Translation.{IsTranslation}
 use Rattle.native_object.specs.Object.{object_bytes}
 use Rattle.native_cli.specs.Headline.{RunsNative, PolicyIsRead, HoldsTranslation, WritesTranslation, WritesIfDone}
 use Rattle.native_cli.specs.Invocations.{NativeGiven, NativeInvocation, translation, help, version, native_command_of}
-use Rattle.native_cli.specs.Tasks.{Translatable, Translator, IsTranslator, is_metered, translatable_in, object_in, object_of, object_told}
+use Rattle.native_gate.specs.Translated.{is_metered}
+use Rattle.native_cli.specs.Tasks.{Translatable, Translator, IsTranslator, translatable_in, object_in, object_of, object_told}
 use Rattle.native_cli.specs.Tasks.{object_written, translation_of, native_stage, native_standing, native_files}
 use Rattle.native_cli.specs.Texts.{native_texts}
+use Rattle.pcc_stages.proofs.Suiting.{ends-fits}
 use Rattle.pcc_stages.proofs.Splitting.{same-value, joined, follows-gives, stopped-none, one-read, silent, split, stops-with-some}
-use Rattle.native_cli.proofs.Suited.{object-fits, native-suited}
+use Rattle.native_cli.proofs.Suited.{object-end, native-suited}
 use Rattle.native_cli.proofs.Translators.{held}
 
 -- ---- the policy
@@ -126,7 +128,7 @@ is-made laws texts args object events h =
     let q = split native_texts (λ bytes. object_in texts p.value args.name bytes) object (container_bytes_of args.file) p.rest p.goes_on in
     let one = one-read native_texts args.file MAX_FILE (refused container_too_long_line) (λ b. b) q.value q.first q.begins in
     let made = silent native_texts command (object_in texts p.value args.name q.value) object q.rest
-    (object-fits [] texts p.value args.name q.value) q.goes_on in
+    (ends-fits native_texts (Some []) refl (object_in texts p.value args.name q.value) (object-end texts p.value args.name q.value)) q.goes_on in
     record {
       policy = p.value;
       policy_reads = p.first;

@@ -14,7 +14,8 @@ use Rattle.pcc_stages.specs.declared.files.TheConstants.{MAX_FILE, MAX_POLICY_FI
 use Rattle.native_translator.specs.Translation.{IsTranslation}
 use Rattle.native_object.specs.Object.{object_bytes}
 use Rattle.native_cli.specs.Invocations.{NativeGiven, NativeInvocation, translation}
-use Rattle.native_cli.specs.Tasks.{Translator, IsTranslator, is_metered, native_task}
+use Rattle.native_gate.specs.Translated.{is_metered}
+use Rattle.native_cli.specs.Tasks.{Translator, IsTranslator, native_task}
 use Rattle.native_cli.specs.Texts.{native_texts}
 
 -- A run read, wrote and printed what the arguments ask for, and its status is that one's, for some translator.

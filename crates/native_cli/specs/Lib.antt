@@ -4,5 +4,4 @@ pub mod Texts
 pub mod Reports
 pub mod Tasks
 pub mod Headline
-pub mod Calls
 pub mod Inside

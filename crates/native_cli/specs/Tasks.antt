@@ -1,29 +1,24 @@
 -- What the arguments of pcc_native ask for, with the translator as a parameter.
-use Rattle.std.specs.Prelude.{◌≡◌, ℕ, Bool, true, false, List, [], ◌∷◌, ◌++◌, length, Option, Some, None}
+use Rattle.std.specs.Prelude.{◌≡◌, ℕ, List, [], ◌∷◌, ◌++◌, length, Option, Some, None}
 use Rattle.alpha_words.specs.declared.insn.Insn.{Insn}
-use Rattle.policy_set.specs.Names.{policy_of}
 use Rattle.policy_set.specs.Views.{PolicyView}
 use Rattle.term_table.specs.Bytes.{IsBytes}
 use Rattle.pcc_gate.specs.declared.refusal.Refusal.{Refusal}
 use Rattle.pcc_gate.specs.First.{first_refusal}
 use Rattle.pcc_lines.specs.Refusals.{refusal_line}
 use Rattle.pcc_lines.specs.Sources.{written_line}
-use Rattle.pcc_words.specs.Invocations.{PolicyWord, named, from_file}
-use Rattle.pcc_stages.specs.Requests.{Request, Standing, no_command, unknown_policy, command, usage_exit}
+use Rattle.pcc_stages.specs.Requests.{Request, Standing, no_command, command, usage_exit}
 use Rattle.pcc_stages.specs.Runs.{Effect, Task, request_of_task}
 use Rattle.pcc_stages.specs.Stage.{Stage, stops, gives, ◌>>=◌}
 use Rattle.pcc_stages.specs.Stages.Common.{refused, printing}
 use Rattle.pcc_stages.specs.Stages.Containers.{container_in, code_in, container_bytes_of}
 use Rattle.pcc_stages.specs.Stages.Policies.{policy_told}
+use Rattle.pcc_stages.specs.Told.{word_files, standing_of_word}
 use Rattle.native_translator.specs.Translation.{IsTranslation}
+use Rattle.native_gate.specs.Translated.{is_metered}
 use Rattle.native_object.specs.Object.{object_bytes}
 use Rattle.native_cli.specs.Invocations.{NativeGiven, NativeInvocation, translation, help, version, native_command_of}
 use Rattle.native_cli.specs.Texts.{native_texts, native_help_text, native_version_text}
-
--- fuel is counted unless the container bounds the steps
-abbrev pub is_metered : Option ℕ → Bool
-is_metered None = true
-is_metered (Some bound) = false
 
 -- a refusal ends the command with its line
 abbrev pub line_if_refused : Option Refusal → Stage (Unit {0})
@@ -91,21 +86,6 @@ module _ (texts : Translator) where
   native_stage (Some (translation args)) = translation_of args
   native_stage (Some help) = printing native_help_text
   native_stage (Some version) = printing native_version_text
-
--- the file that a policy's word names, if it names one
-abbrev pub word_files : PolicyWord → List (List ℕ)
-word_files (named name) = []
-word_files (from_file name) = name ∷ []
-
--- what a command is that names a policy, which there may not be
-abbrev pub standing_of_policy : Option PolicyView → Standing
-standing_of_policy None = unknown_policy
-standing_of_policy (Some policy) = command
-
--- what a command is that tells its policy by a word
-abbrev pub standing_of_word : PolicyWord → Standing
-standing_of_word (named name) = standing_of_policy (policy_of name)
-standing_of_word (from_file name) = command
 
 -- what the arguments are
 abbrev pub native_standing : Option NativeInvocation → Standing

@@ -2,8 +2,8 @@
 //!
 //! The top call is `pcc_native`; the program, native_main, calls it over the real files and output.
 //! `specs/Invocations` says what arguments ask for, `specs/Tasks` what a run reads, refuses and
-//! writes, and `specs/Headline` what it has to do with the container. `specs/Calls` says what calls
-//! of the code do that was written (`call_laws`), and `laws` how a run ends.
+//! writes, and `specs/Headline` what it has to do with the container. What calls of the code do that
+//! was written, `native_gate::call_laws` says, and `laws` how a run ends.
 #![tactic(auto)]
 
 mod arguments;
@@ -16,5 +16,5 @@ mod translating;
 
 pub use arguments::{NativeArgs, read_args};
 pub use report::Report;
-pub use theorems::{call_laws, laws};
+pub use theorems::laws;
 pub use top_call::pcc_native;

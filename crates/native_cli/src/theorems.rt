@@ -9,21 +9,6 @@ ghost use Rattle.pcc_stages.specs.Ends.{Ends};
 ghost use Rattle.pcc_stages.specs.Runs.{Runs};
 ghost use Rattle.native_cli.specs.Tasks.{Translator, native_task, native_request};
 ghost use Rattle.native_cli.specs.Texts.{native_texts};
-ghost use Rattle.native_cli.specs.Calls.{SafePolicyCalls, EndingPolicyCalls, BoundedPolicyCalls};
-
-/// Proves what calls of translated code do, if the container was accepted, and registers and memory
-/// of the call satisfy the policy's precondition.
-///
-/// The call is never stuck; if it returned, the postcondition holds (`safe`). With fuel it ends in
-/// time by its fuel (`ends`), without fuel by the step bound (`bounded`).
-pub fn call_laws()
-    ensures safe { SafePolicyCalls }
-    ensures ends { EndingPolicyCalls }
-    ensures bounded { BoundedPolicyCalls }
-{
-    native_code::laws();
-    pcc_gate::laws();
-}
 
 /// States how a run ends, from what `pcc_native` says of it, with whatever translator. If the contents
 /// of the files are known, the run ends with the answer over them, or as a failed call or running out

@@ -39,7 +39,7 @@ fn print<S: Sink>(decision: Result<Report, Stop<'_>>, out: &mut S) -> u8
 ///
 /// By `writes`, if a translation ended with status 0, the policy and FILE were read, FILE is accepted
 /// under the policy, and OUT has an object file with a translation of the accepted code. What calls
-/// of it do is what `call_laws` says.
+/// of it do is what `native_gate::call_laws` says.
 pub fn pcc_native<F: Files, S: Sink>(
     alloc: Global,
     words: Vec<String>,

@@ -1,36 +1,24 @@
 //! From the arguments to what is written: reads, the check, the translation, and the write.
 
-ghost use Rattle.std.specs.Prelude.{◌≡◌, ◌≤◌, ◌<◌, ◌^◌, length, IfOk, IfErr, map, string_bytes};
+ghost use Rattle.std.specs.Prelude.{◌≡◌, ◌≤◌, length, IfOk, IfErr, map, string_bytes};
 ghost use Rattle.pcc_gate.specs.Answers.{IsAcceptedBy};
 ghost use Rattle.pcc_stages.specs.Answers.{GivesPure};
-ghost use Rattle.native_translator.specs.Translation.{IsTranslation};
 ghost use Rattle.native_cli.specs.Arguments.{args_view};
 ghost use Rattle.native_cli.specs.Invocations.{parsed_args_of};
 ghost use Rattle.native_cli.specs.Tasks as tasks;
-ghost use Rattle.native_cli.specs.Tasks.{accepted_or_line, is_metered};
+ghost use Rattle.native_cli.specs.Tasks.{accepted_or_line};
 ghost use Rattle.native_cli.specs.Inside.Making.{IsObjectOf, GivesPureWith, GivesWith};
 ghost use Rattle.native_cli.specs.Inside.Making.{MakesObject, MakesIfTold, WroteObject};
 
 use crate::arguments::{MAX_NAME, NativeArgs, read_args};
 use crate::report::Report;
 use file_port::{Files, Put};
+use native_gate::text_of;
 use native_object::object;
-use native_translator::translate;
 use pcc_gate::{Accepted, GateFault, gate};
 use pcc_stages::{RefusedLine, Stop, container_bytes_of, policy_told};
 use policy_set::Policy;
 use std::alloc::{AllocError, Global};
-
-/// Translates accepted code. Fuel is counted unless the container bounds the steps. Errors: out of
-/// memory.
-fn text_of(alloc: Global, accepted: &Accepted) -> Result<Vec<u8>, AllocError>
-    ensures exact { IfOk result (λ text. IsTranslation (is_metered accepted.now.bound)
-        accepted.now.code text.items) }
-    ensures short { IfOk result (λ text. length text.items < 2 ^ 30) }
-{
-    let metered = accepted.bound().is_none();
-    translate(alloc, accepted.cut().code(), metered)
-}
 
 /// Returns the object file of accepted code, with a function of this name.
 fn object_from(alloc: Global, accepted: &Accepted, name: &str) -> Result<Vec<u8>, AllocError>

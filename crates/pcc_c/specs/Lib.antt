@@ -5,6 +5,7 @@ pub mod Checking
 pub mod Assembling
 pub mod Proving
 pub mod Compiling
+pub mod Translating
 pub mod Upgrading
 pub mod Buffers
 pub mod Hosting

@@ -6,3 +6,4 @@ pub mod TurnLemmas
 pub mod AgentLemmas
 pub mod StandingLemmas
 pub mod MemberLemmas
+pub mod PureStages

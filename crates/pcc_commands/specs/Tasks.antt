@@ -1,12 +1,12 @@
 -- What the arguments of pcc ask for.
 use Rattle.std.specs.Prelude.{ℕ, List, [], ◌∷◌, Option, Some, None}
-use Rattle.policy_set.specs.Views.{PolicyView}
 use Rattle.policy_set.specs.Names.{policy_of}
 use Rattle.pcc_words.specs.Invocations.{named, from_file, Invocation, asm, prove, check, run, ref, demo, upgrade, host, bpf, command_of}
-use Rattle.pcc_stages.specs.Requests.{Request, Standing, no_command, unknown_policy, command, usage_exit}
+use Rattle.pcc_stages.specs.Requests.{Request, Standing, no_command, command, usage_exit}
 use Rattle.pcc_stages.specs.Stage.{Stage, stops}
 use Rattle.pcc_stages.specs.Runs.{Effect, Task, request_of_task}
 use Rattle.pcc_stages.specs.Texts.{texts}
+use Rattle.pcc_stages.specs.Told.{standing_of_policy}
 use Rattle.pcc_commands.specs.Commands.Assemble.{asm_command}
 use Rattle.pcc_commands.specs.Commands.Check.{check_command}
 use Rattle.pcc_commands.specs.Commands.Prove.{prove_command}
@@ -44,11 +44,6 @@ names_of (upgrade input output) = Some (input ∷ [])
 names_of (host script) = None
 names_of (bpf input output) = Some (input ∷ [])
 
--- what a command on this policy is
-abbrev pub standing_on : Option PolicyView → Standing
-standing_on None = unknown_policy
-standing_on (Some policy) = command
-
 -- the name of the policy that a command names, or is always under; none where a file tells it, or
 -- there is none
 abbrev pub policy_name_of : Invocation → Option (List ℕ)
@@ -66,7 +61,7 @@ policy_name_of (bpf input output) = None
 -- what a command is that names this policy, if it names one
 abbrev pub standing_under : Option (List ℕ) → Standing
 standing_under None = command
-standing_under (Some name) = standing_on (policy_of name)
+standing_under (Some name) = standing_of_policy (policy_of name)
 
 -- what a command is
 abbrev pub standing_of : Invocation → Standing

@@ -4,3 +4,5 @@ pub mod DecisionLemmas
 pub mod AccountLemmas
 pub mod RunLemmas
 pub mod Splitting
+pub mod PureStages
+pub mod Suiting

@@ -1,5 +1,6 @@
 pub mod Texts
 pub mod Stages
+pub mod Told
 pub mod Stops
 pub mod Answers
 pub mod Decisions

@@ -96,7 +96,7 @@ use Rattle.view_cli.proofs.Always.{Always, always_comes}
 use Rattle.view_cli.proofs.CommandStages.{listing_stage, lines_stage, goals_stage, goals_under, last_stage, code_stage, policy_stage}
 use Rattle.view_cli.proofs.LineNumbers.{line_numbers}
 use Rattle.view_cli.proofs.SourceCodes.{of_source, none_noted}
-use Rattle.view_cli.proofs.PureStages.{EndsAs, gave, refused_by, had_no_memory, code_end, packets_in_end, policy_in_end}
+use Rattle.pcc_stages.proofs.PureStages.{EndsAs, gave, refused_by, had_no_memory, code_end, packets_in_end, policy_in_end}
 
 -- what the definitions beneath are worth
 pub record ViewLaws : Type 0 where

@@ -1,6 +1,6 @@
 -- What the arguments ask for is suited: commands stop with refusals that go with what they are, and
 -- read the files that they name.
-use Rattle.std.proofs.Common.{◌≡◌, ◌≢◌, ℕ, Bool, true, false, List, [], ◌∷◌, length, get_or, slice_get, if◌then◌else◌, nat_lt, Option, Some, None, is_some, Result, Ok, Err, Contains, refl, sym, ap, ◌∙◌, subst, arith, inl, inr}
+use Rattle.std.proofs.Common.{◌≡◌, ℕ, Bool, true, false, List, [], ◌∷◌, length, get_or, slice_get, if◌then◌else◌, nat_lt, Option, Some, None, is_some, Result, Ok, Err, Contains, refl, arith, inl}
 use Rattle.alpha_words.specs.declared.insn.Insn.{Insn}
 use Rattle.word_ops.specs.declared.Profile.{Profile}
 use Rattle.formula_tree.specs.Formulas.{Form}
@@ -26,19 +26,19 @@ use Rattle.view_faults.specs.FormReports.{without_lf, form_fault_line, form_faul
 use Rattle.view_faults.specs.PolicyReports.{report_of_policy, policy_report}
 use Rattle.view_source_faults.specs.SourceReports.{report_of_code, report_of_source, source_report}
 use Rattle.pcc_words.specs.Invocations.{named, from_file}
-use Rattle.pcc_lines.specs.Fixed.{container_too_long_line, packets_too_long_line, policy_too_long_line, source_too_long_line, unknown_policy_line}
+use Rattle.pcc_lines.specs.Fixed.{container_too_long_line, packets_too_long_line, policy_too_long_line, source_too_long_line}
 use Rattle.pcc_lines.specs.Policies.{policy_lines_line, policy_length_line, policy_form_line}
 use Rattle.pcc_lines.specs.Refusals.{refusal_line}
 use Rattle.pcc_lines.specs.Sources.{source_fault_line}
 use Rattle.pcc_stages.specs.Exits.{Exit}
-use Rattle.pcc_stages.specs.Requests.{command, no_memory_exit}
+use Rattle.pcc_stages.specs.Requests.{command}
 use Rattle.pcc_stages.specs.Stage.{Stage, stops, gives, reads, ◌>>=◌}
 use Rattle.pcc_stages.specs.Runs.{Effect, IsStop, IsSuited}
 use Rattle.pcc_stages.specs.declared.files.TheConstants.{MAX_FILE, MAX_POLICY_FILE}
 use Rattle.pcc_stages.specs.Stages.Common.{refused, policy_found, ending}
 use Rattle.pcc_stages.specs.Stages.Containers.{code_in, code_of}
 use Rattle.pcc_stages.specs.Stages.Packets.{packets_in, packets_of}
-use Rattle.pcc_stages.specs.Stages.Policies.{policy_in, policy_from}
+use Rattle.pcc_stages.specs.Stages.Policies.{policy_from}
 use Rattle.view_cli.specs.Invocations.{ViewInvocation}
 use Rattle.view_cli.specs.Invocations as views
 use Rattle.view_cli.specs.Texts.{view_texts, formula_too_long_line, absent_packet_line, no_start_line}
@@ -49,47 +49,21 @@ use Rattle.view_cli.specs.Commands.Goals.{goals_found, beside_read, style_of, go
 use Rattle.view_cli.specs.Commands.List.{beside_in, source_beside, listing_in, list_command}
 use Rattle.view_looks.specs.Looks.{look_of}
 use Rattle.view_cli.specs.Commands.Packet.{traced_exit, where_started, packet_command}
-use Rattle.view_cli.specs.Tasks.{standing_if_found, view_task}
+use Rattle.view_cli.specs.Tasks.{view_task}
 use Rattle.view_cli.proofs.CommandStages.{listing_stage, lines_stage, goals_stage, goals_under, last_stage, code_stage, policy_stage}
-use Rattle.view_cli.proofs.PureStages.{BeginsBefore, EndsAs, gave, refused_by, had_no_memory, refusal_begins, no_container_begins}
-use Rattle.view_cli.proofs.PureStages.{beside_in_end, code_end, packets_in_end, policy_in_end}
-
--- a line that begins with another letter isn't that of an unknown policy
-other_line : (line : List ℕ) → BeginsBefore line → line ≢ unknown_policy_line
-other_line line less is =
-    let first : get_or line 0 0 ≡ 117 = ap (λ (x : List ℕ). get_or x 0 0) is in
-    absurd (omega (arith, less, first))
-
--- a refusal with such a line goes with a command
-stop_line : (line : List ℕ) → BeginsBefore line → IsStop view_texts command (refused line)
-stop_line line less = record {
-  suits = (
-    λ two. absurd (omega arith),
-    λ is. other_line line less (ap (λ (x : Exit). x.text) is),
-  );
-  some = omega arith;
-  in_range = omega arith;
-}
+use Rattle.pcc_stages.specs.Told.{standing_of_policy}
+use Rattle.pcc_stages.proofs.PureStages.{BeginsBefore, EndsAs, refusal_begins, code_end, packets_in_end}
+use Rattle.pcc_stages.proofs.Suiting.{stop_line, goes-on, reads-fit, found-fits, from-fits, only, first_of_two, second_of_two}
+use Rattle.view_cli.proofs.PureStages.{no_container_begins, beside_in_end}
 
 module _ (names : List (List ℕ)) where
   -- what is left of a command
   abbrev Fits : Stage Effect → Type 0
   Fits s = IsSuited view_texts command (Some names) s
 
-  -- behind a stage that reads no file
-  goes_on : {A : Type 0} (on : Stage A → Stage Effect) → ((exit : Exit) → on (stops exit) ≡ stops exit)
-      → (s : Stage A) → EndsAs s → ((x : A) → Fits (on (gives x))) → Fits (on s)
-  goes_on {A = A} on stuck s (gave x is) each = subst (λ (y : Stage A). Fits (on y)) (sym is) (each x)
-  goes_on on stuck s (refused_by line less is) each =
-      subst Fits (sym (ap on is ∙ stuck (refused line))) (inl (stop_line line less))
-  goes_on on stuck s (had_no_memory is) each =
-      subst Fits (sym (ap on is ∙ stuck no_memory_exit)) (inr refl)
-
-  -- behind the read of a file of the command's
-  reads_on : (name : List ℕ) (max : ℕ) (line : List ℕ) (on : List ℕ → Stage Effect)
-      → Contains names name → BeginsBefore line → ((b : List ℕ) → Fits (on b))
-      → Fits (reads name max (refused line) on)
-  reads_on name max line on listed less each = (refl, listed, stop_line line less, each)
+  -- a refusal
+  stop_at : (line : List ℕ) → BeginsBefore line → IsStop view_texts command (refused line)
+  stop_at line less = stop_line view_texts refl line less
 
   -- ---- `formula` and `source`
 
@@ -98,7 +72,7 @@ module _ (names : List (List ℕ)) where
   form_fits text (Ok F) = refl
   form_fits text (Err fault) =
       let first : get_or (form_fault_text text fault) 0 0 ≡ 102 = refl in
-      inl (stop_line (form_fault_text text fault) (omega (arith, first)))
+      inl (stop_at (form_fault_text text fault) (omega (arith, first)))
 
   short_form_fits : (p : Profile) (left : Bool) (text : List ℕ) (long : Bool)
       → Fits
@@ -107,7 +81,7 @@ module _ (names : List (List ℕ)) where
   unfolding formula_report formula_too_long_line
   short_form_fits p left text true =
       let first : get_or formula_too_long_line 0 0 ≡ 102 = refl in
-      inl (stop_line formula_too_long_line (omega (arith, first)))
+      inl (stop_at formula_too_long_line (omega (arith, first)))
   short_form_fits p left text false =
       form_fits (without_lf text) (parsed_form p left (without_lf text))
 
@@ -115,21 +89,21 @@ module _ (names : List (List ℕ)) where
       → Fits (ending (told_exit (report_of_policy text r)))
   unfolding policy_lines_line policy_length_line policy_form_line
   policy_fits text (Ok policy) = refl
-  policy_fits text (Err (policy_flaw.Lines count)) = inl (stop_line _ (omega arith))
-  policy_fits text (Err (policy_flaw.Length line)) = inl (stop_line _ (omega arith))
-  policy_fits text (Err (policy_flaw.Form line at what)) = inl (stop_line _ (omega arith))
+  policy_fits text (Err (policy_flaw.Lines count)) = inl (stop_at _ (omega arith))
+  policy_fits text (Err (policy_flaw.Length line)) = inl (stop_at _ (omega arith))
+  policy_fits text (Err (policy_flaw.Form line at what)) = inl (stop_at _ (omega arith))
 
   code_fits : (text : List ℕ) (s : Source) (r : Result (List Insn) AsmFlaw)
       → Fits (ending (told_exit (report_of_code text s r)))
   unfolding source_fault_line
   code_fits text s (Ok code) = refl
-  code_fits text s (Err flaw) = inl (stop_line _ (omega arith))
+  code_fits text s (Err flaw) = inl (stop_at _ (omega arith))
 
   source_fits : (p : Profile) (left : Bool) (text : List ℕ) (r : Result Source (ℕ × LineFlaw))
       → Fits (ending (told_exit (report_of_source p left text r)))
   unfolding source_fault_line
   source_fits p left text (Ok s) = code_fits text s (assembled_code p s)
-  source_fits p left text (Err fault) = inl (stop_line _ (omega arith))
+  source_fits p left text (Err fault) = inl (stop_at _ (omega arith))
 
   -- ---- `packet`
 
@@ -138,37 +112,41 @@ module _ (names : List (List ℕ)) where
   unfolding absent_packet_line no_start_line
   packet_fits under code steps k None p =
       let first : get_or no_start_line 0 0 ≡ 110 = refl in
-      inl (stop_line no_start_line (omega (arith, first)))
+      inl (stop_at no_start_line (omega (arith, first)))
   packet_fits under code steps k (Some kind) None =
       let first : get_or (absent_packet_line k) 0 0 ≡ 110 = refl in
-      inl (stop_line (absent_packet_line k) (omega (arith, first)))
+      inl (stop_at (absent_packet_line k) (omega (arith, first)))
   packet_fits under code steps k (Some kind) (Some packet) = refl
 
 -- ---- commands that begin with a policy
 
--- behind a policy by its name
-found_fits : (names : List (List ℕ)) (next : PolicyView → Stage Exit) (o : Option PolicyView)
-    → ((under : PolicyView) → Fits names (next under >>= ending))
-    → IsSuited view_texts (standing_if_found o) (Some names) ((policy_found o >>= next) >>= ending)
-found_fits names next None each =
-    inl (record { suits = refl; some = omega arith; in_range = omega arith })
-found_fits names next (Some under) each = each under
+module _ (names : List (List ℕ)) where
+  -- behind a stage that reads no file
+  goes_on : {A : Type 0} (on : Stage A → Stage Effect) → ((exit : Exit) → on (stops exit) ≡ stops exit)
+      → (s : Stage A) → EndsAs s → ((x : A) → Fits names (on (gives x))) → Fits names (on s)
+  goes_on on stuck s h each = goes-on view_texts (Some names) refl on stuck s h each
 
--- behind one from a file
-told_fits : (names : List (List ℕ)) (next : PolicyView → Stage Exit) (name : List ℕ)
-    → Contains names name → ((under : PolicyView) → Fits names (next under >>= ending))
-    → Fits names ((policy_from name >>= next) >>= ending)
-unfolding policy_from
-told_fits names next name listed each =
-    reads_on names name MAX_POLICY_FILE policy_too_long_line
-    (λ b. (policy_in b >>= next) >>= ending) listed (omega arith)
-    (λ b. goes_on names (λ (y : Stage PolicyView). (y >>= next) >>= ending) (λ exit. refl)
-    (policy_in b) (policy_in_end b) each)
+  -- behind the read of a file of the command's
+  reads_on : (name : List ℕ) (max : ℕ) (line : List ℕ) (on : List ℕ → Stage Effect)
+      → Contains names name → BeginsBefore line → ((b : List ℕ) → Fits names (on b))
+      → Fits names (reads name max (refused line) on)
+  reads_on name max line on listed less each = reads-fit view_texts (Some names) refl name max line on listed less each
+
+  -- behind a policy by its name
+  found_fits : (next : PolicyView → Stage Exit) (o : Option PolicyView)
+      → ((under : PolicyView) → Fits names (next under >>= ending))
+      → IsSuited view_texts (standing_of_policy o) (Some names) ((policy_found o >>= next) >>= ending)
+  found_fits next o each = found-fits view_texts (Some names) refl next ending each o
+
+  -- behind one from a file
+  told_fits : (next : PolicyView → Stage Exit) (name : List ℕ) → Contains names name
+      → ((under : PolicyView) → Fits names (next under >>= ending)) → Fits names ((policy_from name >>= next) >>= ending)
+  told_fits next name listed each = from-fits view_texts (Some names) refl next ending each name listed
 
 goals_found_fits : (names : List (List ℕ)) (r : Result (List ℕ) Refusal)
     → Fits names (goals_found r >>= ending)
 goals_found_fits names (Ok text) = refl
-goals_found_fits names (Err r) = inl (stop_line (refusal_line r) (refusal_begins r))
+goals_found_fits names (Err r) = inl (stop_line view_texts refl (refusal_line r) (refusal_begins r))
 
 -- behind SOURCE, which it may have
 goals_beside_fits : (names : List (List ℕ)) (from : List ℕ) (only_missing all : Bool)
@@ -242,7 +220,7 @@ listing_fits : (names : List (List ℕ)) (from : Option (List ℕ)) (b : List �
     → Fits names (listing_in from b r >>= ending)
 listing_fits names from b (Ok c) each = each c
 listing_fits names from b (Err fault) each =
-    inl (stop_line _ (no_container_begins fault.0 fault.1 (look_of b)))
+    inl (stop_line view_texts refl _ (no_container_begins fault.0 fault.1 (look_of b)))
 
 list_fits : (names : List (List ℕ)) (file : List ℕ) (from : Option (List ℕ)) → Contains names file
     → ((c : Contents) → Fits names (lines_stage from c >>= ending))
@@ -253,16 +231,7 @@ list_fits names file from listed each =
     (λ b. listing_in from b (decoded_container b) >>= ending) listed (omega arith)
     (λ b. listing_fits names from b (decoded_container b) each)
 
--- the only name, the first, the second, the third
-only : (a : List ℕ) → Contains (a ∷ []) a
-only a = (0, omega arith, refl)
-
-first_of_two : (a b : List ℕ) → Contains (a ∷ b ∷ []) a
-first_of_two a b = (0, omega arith, refl)
-
-second_of_two : (a b : List ℕ) → Contains (a ∷ b ∷ []) b
-second_of_two a b = (1, omega arith, refl)
-
+-- the first of three names, the second, the third
 first_of_three : (a b c : List ℕ) → Contains (a ∷ b ∷ c ∷ []) a
 first_of_three a b c = (0, omega arith, refl)
 

@@ -1,13 +1,11 @@
 -- What the arguments of pcc_view ask for.
 use Rattle.std.specs.Prelude.{ℕ, List, [], ◌∷◌, ◌++◌, Option, Some, None}
-use Rattle.policy_set.specs.Views.{PolicyView}
-use Rattle.policy_set.specs.Names.{policy_of}
-use Rattle.pcc_words.specs.Invocations.{PolicyWord, named, from_file}
 use Rattle.pcc_stages.specs.Exits.{Exit}
-use Rattle.pcc_stages.specs.Requests.{Request, Standing, no_command, unknown_policy, command, usage_exit}
+use Rattle.pcc_stages.specs.Requests.{Request, Standing, no_command, command, usage_exit}
 use Rattle.pcc_stages.specs.Runs.{Task, request_of_task, done_exit}
 use Rattle.pcc_stages.specs.Stage.{Stage, gives, ◌>>=◌}
 use Rattle.pcc_stages.specs.Stages.Common.{ending}
+use Rattle.pcc_stages.specs.Told.{word_files, standing_of_word}
 use Rattle.view_cli.specs.Invocations.{ViewInvocation, list, goals, packet, formula, policy_formulas, source, help, version, view_command_of}
 use Rattle.view_cli.specs.Texts.{help_text, version_text, view_texts}
 use Rattle.view_cli.specs.Commands.List.{list_command}
@@ -29,38 +27,23 @@ exit_of_command (source file v bound) = source_command file v bound
 exit_of_command help = gives (done_exit help_text)
 exit_of_command version = gives (done_exit version_text)
 
--- the file that a policy's word names, if it names one
-abbrev pub policy_files : PolicyWord → List (List ℕ)
-policy_files (named name) = []
-policy_files (from_file name) = name ∷ []
-
 -- the files that a command reads, whatever they hold
 abbrev pub view_files : ViewInvocation → List (List ℕ)
 view_files (list file None) = file ∷ []
 view_files (list file (Some from)) = file ∷ from ∷ []
-view_files (goals policy file None only_missing all) = policy_files policy ++ file ∷ []
-view_files (goals policy file (Some from) only_missing all) = policy_files policy ++ file ∷ from ∷ []
-view_files (packet policy file packets k steps) = policy_files policy ++ file ∷ packets ∷ []
+view_files (goals policy file None only_missing all) = word_files policy ++ file ∷ []
+view_files (goals policy file (Some from) only_missing all) = word_files policy ++ file ∷ from ∷ []
+view_files (packet policy file packets k steps) = word_files policy ++ file ∷ packets ∷ []
 view_files (formula file profile left) = file ∷ []
 view_files (policy_formulas file) = file ∷ []
 view_files (source file v bound) = file ∷ []
 view_files help = []
 view_files version = []
 
--- what a command is that names a policy, which there may not be
-abbrev pub standing_if_found : Option PolicyView → Standing
-standing_if_found None = unknown_policy
-standing_if_found (Some policy) = command
-
--- what a command is that tells its policy by a word
-abbrev pub standing_with : PolicyWord → Standing
-standing_with (named name) = standing_if_found (policy_of name)
-standing_with (from_file name) = command
-
 -- what a command is
 abbrev pub view_standing : ViewInvocation → Standing
-view_standing (goals policy file from only_missing all) = standing_with policy
-view_standing (packet policy file packets k steps) = standing_with policy
+view_standing (goals policy file from only_missing all) = standing_of_word policy
+view_standing (packet policy file packets k steps) = standing_of_word policy
 view_standing other = command
 
 -- ---- all commands

@@ -15,7 +15,8 @@ use Rattle.native_cli.specs.Invocations.{NativeGiven}
 use Rattle.native_cli.specs.Reports.{native_exit}
 use Rattle.native_translator.specs.Translation.{IsTranslation}
 use Rattle.native_object.specs.Object.{object_bytes}
-use Rattle.native_cli.specs.Tasks.{is_metered, Translator, IsTranslator, translation_of}
+use Rattle.native_gate.specs.Translated.{is_metered}
+use Rattle.native_cli.specs.Tasks.{Translator, IsTranslator, translation_of}
 use Rattle.native_cli.specs.Texts.{native_texts}
 use Rattle.native_cli.specs.declared.report.Report.{Report}
 use Rattle.native_cli.specs.declared.report.Report.TheVariants as report

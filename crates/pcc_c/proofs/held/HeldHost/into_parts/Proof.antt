@@ -23,7 +23,7 @@ use denote.Triple.Spec.{triple_of}
 use denote.Triple.Table.{entered}
 use denote.Triple.Walked.{says, Stays, stay_dropped, walk_of, ends_at, Goes-dropped, walk_Meets}
 use Rattle.std.specs.Prelude.{Option, IsSome}
-use Rattle.std.proofs.BoxSteps.Form.{D, B, X, word, box_typed}
+use Rattle.std.proofs.BoxSteps.Form.{D, X, word, box_typed}
 use Rattle.std.proofs.BoxSteps.Steps.{box_out, box_in}
 use Rattle.pcc_c.proofs.AsBox.{E, some_of, FromHost as From}
 use Rattle.pcc_c.specs.contracts.held.HeldHost as HeldHost

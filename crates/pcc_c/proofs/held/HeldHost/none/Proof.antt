@@ -33,7 +33,6 @@ use Rattle.std.specs.Prelude.{None}
 use Rattle.std.proofs.alloc.Calls.{α, handle_tells}
 use Rattle.std.specs.contracts.alloc.Global as Heap
 use Rattle.pcc_c.proofs.AsBox.{E, Ptr-Good, both_tt}
-use Rattle.pcc_c.specs.contracts.held.HeldHost as HeldHost
 use Rattle.pcc_c.specs.contracts.held.HeldHost.none as F
 use Rattle.pcc_c.specs.contracts.held.HeldHost.none.Key.{name as #self}
 use Rattle.pcc_c.proofs.held.HeldHost.none.Statement as stated

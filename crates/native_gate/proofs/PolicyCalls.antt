@@ -18,7 +18,7 @@ use Rattle.native_steps.specs.Agreement.{Call}
 use Rattle.native_code.specs.Layout.{native_insns}
 use Rattle.native_code.specs.Calls.{ArePlacesOf}
 use Rattle.native_code.specs.Ends.{IsAllowedRun, IsSafeCall, IsSafeEnd, LeavesWithin, SafeCalls, EndingCalls, ReturningCalls}
-use Rattle.native_cli.specs.Calls.{IsPolicyCall, IsGoodNativeEnd, SafePolicyCalls, EndingPolicyCalls, BoundedPolicyCalls}
+use Rattle.native_gate.specs.Calls.{IsPolicyCall, IsGoodNativeEnd, SafePolicyCalls, EndingPolicyCalls, BoundedPolicyCalls}
 
 -- ---- Alpha runs
 

@@ -1,5 +1,5 @@
-use Rattle.native_cli.proofs.PolicyCalls.{safe-policy-calls, ending-policy-calls, bounded-policy-calls}
-use Rattle.native_cli.proofs.theorems.call_laws.Goals as goal
+use Rattle.native_gate.proofs.PolicyCalls.{safe-policy-calls, ending-policy-calls, bounded-policy-calls}
+use Rattle.native_gate.proofs.theorems.call_laws.Goals as goal
 
 pub returns : goal.returns
 returns c = record {
