@@ -1,15 +1,16 @@
 #!/usr/bin/env bash
 # Measures the program's speed, and prints a table for each of: start-up, asm, prove and check on examples; files at
-# limits; steps a second of ref and run on a checksum; packets a second on a filter for a port; a loop of six
-# instructions on one packet of 64 bytes, whose loading costs nothing; and files that double (bench/growth.py).
+# limits; steps a second of ref, run, native code and the library on a checksum; packets a second on a filter for a port; a
+# loop of six instructions on one packet of 64 bytes, whose loading costs nothing; and files that double (bench/growth.py).
 #
 # The filters are measured beside native loops (bench/native.c, if there is a C compiler), and beside libpcap, tcpdump
 # and qemu-alpha (its translator and -singlestep) if they are installed. A line `missing: ..` says what isn't.
 # bench/tables.py has the form of the tables, and bench/plots draws them. Lines before the tables say when, on which
 # machine and with which kit the run was made; the last line says how long it took.
 #
-# PCC is the program that is measured; without it tools/build builds the proved one. CC is the
-# C compiler, cc without it; an empty CC leaves the native rows out. If a command prints another line than the expected
+# PCC, PCC_NATIVE and PCC_AUTO are the programs that are measured; without them tools/build builds the proved ones. ARCHIVE
+# is the library, as tools/c_check builds it. CAPTURE is a program that filters a capture, called with `-c CONTAINER -r FILE
+# -w OUT`. CC is the C compiler, cc without it; an empty CC leaves the native rows out. If a command prints another line than the expected
 # one, a line `EXPECTED ..` says so, and the status is 1.
 #
 # usage: bench/all.sh
@@ -21,15 +22,21 @@ work=$(mktemp -d)
 trap 'rm -rf "$work"' EXIT
 given=${PCC:+given}
 . "$top/bench/program.sh"
+set_measured PCC_NATIVE pcc_native
+set_measured PCC_AUTO pcc_auto
 cd "$top"
-python3 -B - "$top/bench" "$PCC" "$work" "${CC-cc}" "$given" <<'PY'
+python3 -B - "$top" "$PCC" "$PCC_NATIVE" "$PCC_AUTO" "$work" "${CC-cc}" "$given" "${ARCHIVE-$top/crates/pcc_c/out/libpcc_c.a}" \
+  "${CAPTURE-}" <<'PY'
 import os, shutil, statistics, struct, subprocess, sys, time
-sys.path.insert(0, sys.argv[1])
+sys.path.insert(0, sys.argv[1] + "/bench")
+from beside import Beside
+from native_rivals import SIX_SOURCE
 from tables import Printer
 from terms import *
 import growth
 
-bench, binary, work, compiler, given = sys.argv[1:]
+top, binary, native_binary, auto_binary, work, compiler, given, archive, capture_tool = sys.argv[1:]
+bench = top + "/bench"
 tables = Printer()
 tables.begin(binary, bool(given))
 
@@ -154,6 +161,8 @@ if compiler and shutil.which(compiler):
                 if name == kind or name in ("libpcap", "six") and kind == "port":
                     native[name] = float(seconds), int(taken)
 
+beside = Beside(top, work, compiler or "none", native_binary, archive)
+
 NO_COMPILER = "%s isn't there, or failed" % compiler if compiler else "CC is empty"
 NO_LIBPCAP = "libpcap: " + ("its headers aren't installed" if native else NO_COMPILER)
 
@@ -226,8 +235,18 @@ def emulated_rows(rates, rows):
         else:
             rate_row(name, rate, rates)
 
-def passes(name, path, count, work_units, times):
-    """Rows for ref, for run and for the native loop, in so many units a pass; the rates of ref and run."""
+def beside_rows(rates, container, path, units, rounds, wanted=None, note=""):
+    """Rows for native code and the library, in so many units a packet."""
+    for name, taken in beside.passes(container, path, rounds).items():
+        rate_row(name + note, units / taken.nanoseconds * 1e9, rates, *(["", str(taken.count)] if wanted is not None else []))
+        if wanted is not None and taken.count != wanted:
+            tables.expected("%d packets taken" % wanted, "%d by %s" % (taken.count, name))
+    for text in beside.missing:
+        tables.missing(text)
+
+def passes(name, path, count, work_units, times, rounds):
+    """Rows for ref, for run, for native code and the library, and for the native loop, in so many units a pass; the rates of
+    ref and run."""
     seconds, taken = {}, {}
     for command in ("ref", "run"):
         base = median([binary, command, "filter", proved[name], none], times=times)[0]
@@ -238,6 +257,7 @@ def passes(name, path, count, work_units, times):
     rates = {command: work_units / seconds[command] for command in seconds}
     for command in rates:
         rate_row("pcc " + command, rates[command], rates, "%.4f" % seconds[command], str(taken[command]))
+    beside_rows(rates, proved[name], path, work_units / count, rounds, taken["run"])
     if name in native:
         rate_row("native loop", work_units / native[name][0], rates, "%.4f" % native[name][0], str(native[name][1]))
         for command in taken:
@@ -252,7 +272,7 @@ def passes(name, path, count, work_units, times):
 measured = "processor time without start-up and check, median of "
 begin_rates("checksum: checksum of %d packets of 65,535 bytes, %s steps; %seleven; qemu-alpha repeats one packet"
             % (len(large), format(counted["checksum"], ","), measured), "million steps/s", "processor, s", "packets taken")
-rates = passes("checksum", large_file, len(large), counted["checksum"] / 1e6, 11)
+rates = passes("checksum", large_file, len(large), counted["checksum"] / 1e6, 11, 8)
 bytes_of = read(proved["checksum"])
 code = bytes_of[16:16 + 4 * struct.unpack_from("<I", bytes_of, 12)[0]]
 steps = counted["checksum"] / len(large)
@@ -263,7 +283,7 @@ emulated_rows(rates, [("qemu-alpha -singlestep", ["-singlestep"], code, large[0]
 
 begin_rates("packets: TCP to port 80 on %s frames of 64 to 98 bytes, %s steps; %sfive; pcc writes a line for each packet"
             % (format(len(small), ","), format(counted["port"], ","), measured), "thousand packets/s", "processor, s", "packets taken")
-rates = passes("port", small_file, len(small), len(small) / 1e3, 5)
+rates = passes("port", small_file, len(small), len(small) / 1e3, 5, 4)
 if "libpcap" in native:
     seconds, taken = native["libpcap"]
     rate_row("libpcap's filter `tcp dst port 80`", len(small) / seconds / 1e3, rates, "%.4f" % seconds, str(taken))
@@ -276,6 +296,12 @@ if shutil.which("tcpdump"):
     base = median(["tcpdump", "-n", "-r", empty, "-w", work + "/taken", "tcp dst port 80"])[0]
     seconds = max(median(["tcpdump", "-n", "-r", path, "-w", work + "/taken", "tcp dst port 80"])[0] - base, 1e-4)
     rate_row("tcpdump -r, which writes the frames", len(small) / seconds / 1e3, rates, "%.4f" % seconds)
+    if capture_tool:
+        words = [capture_tool, "-c", proved["port"], "-w", work + "/taken", "-r"]
+        seconds = max(median([*words, path])[0] - median([*words, empty])[0], 1e-4)
+        rate_row("the capture tool, which writes the frames", len(small) / seconds / 1e3, rates, "%.4f" % seconds)
+    else:
+        tables.missing("the capture tool: CAPTURE isn't given")
 else:
     tables.missing("tcpdump isn't installed")
 
@@ -300,6 +326,10 @@ for command in ("ref", "run"):
     rates[command] = STEPS / max(median([*words, STEPS], "0: out of steps")[0] - base, 1e-4) / 1e6
 for command in rates:
     rate_row("pcc " + command, rates[command], rates)
+counting = write("counting", file_of([bytes(8) + struct.pack("<Q", 10000000) + bytes(48)]))
+once([binary, "asm", "filter", write("counting.s", SIX_SOURCE), work + "/counting.plain"])
+once([binary, "prove", "filter", work + "/counting.plain", work + "/counting.proved"])
+beside_rows(rates, work + "/counting.proved", counting, 60, 1, None, ", its rounds counted in r6")
 # the last two: subq r6,1,r6; bne r6
 loop = load(6, ROUNDS) + [0x40203401, 0x443FF002, 0x48407723, 0x40640404, 0x40C03526, 0xF4DFFFFA, 0x201F0001, RETURN]
 code = struct.pack("<%dI" % len(loop), *loop)
@@ -312,7 +342,7 @@ else:
 
 # ---- growth
 
-growth.rows(binary, work, once, tables)
+growth.rows({"pcc": binary, "pcc_native": native_binary, "pcc_auto": auto_binary}, work, once, tables)
 tables.end()
 sys.exit(1 if tables.failed else 0)
 PY

@@ -1,4 +1,4 @@
-"""The families of bench/hostile.sh: files that are made to take `pcc check` or `pcc prove` long."""
+"""The families of bench/hostile.sh: files that are made to take a program long."""
 import os, subprocess, sys
 sys.path.insert(0, os.path.dirname(os.path.abspath(__file__)))
 from runs import run
@@ -6,7 +6,7 @@ from terms import *
 
 LOOP = 0xC3FFFFFF  # br to itself
 CHANGED = list(range(1, 9))  # registers that code may write
-MOST = {"check": (2.0, 512), "prove": (5.0, 1024)}  # seconds, megabytes
+MOST = {"check": (2.0, 512), "native": (2.0, 512), "prove": (5.0, 1024), "auto": (10.0, 1024)}  # seconds, megabytes
 
 
 def both_ways(t, formula):
@@ -338,6 +338,12 @@ def sums_below(t, levels, parts):
     return both_sides(t, levels, t.con(ULT, summed(t, sums), t.lit(0)))
 
 
+def alone(made, *numbers):
+    """A container whose loop has what is made as its invariant."""
+    t = Terms()
+    return container(t, FILTER, [LOOP], [(0, made(t, *numbers))])
+
+
 PROVED = [  # what is made, and how `prove` ends
     ("h, equal sums of 32 leaves", equal_sums, (32, 1), "written 781468"),
     ("h, 40 equal sums of 64 leaves", equal_sums, (64, 40), "status 5"),
@@ -357,33 +363,174 @@ PROVED = [  # what is made, and how `prove` ends
 
 def for_prove():
     for name, made, numbers, wanted in PROVED:
+        yield name, "filter", alone(made, *numbers), wanted
+
+
+# ---- for `pcc_native`: accepted code, or a container that is dear to check
+
+def returns_and_heads():
+    """512 returns, each the target of a branch that stands behind them: so a loop head on no loop."""
+    branches = [beq(1 + k % 8, k - (512 + k) - 1) for k in range(511)]
+    return container(Terms(), TAG, [RETURN] * 512 + branches + [RETURN])
+
+
+def for_native():
+    yield "p, 512 returns at loop heads", "tag", returns_and_heads(), "prove"
+    for parts, count, wanted in ((20, 14000, "written 537"), (3000, 12000, "status 5")):
         t = Terms()
-        yield name, "filter", container(t, FILTER, [LOOP], [(0, made(t, *numbers))]), wanted
+        data = returning_container(t, under_equality(t, instances(t, parts, count)))
+        yield "p, %d instances of %d parts" % (count, parts), "tag", data, wanted
+    t = Terms()
+    yield "p, 40000 formulas at 30 depths", "tag", at_depths(t, 40000, 30, 200), "status 5"
 
 
-def main(binary, work, *chosen):
-    passed = True
-    asked = [("check", family) for family in families()] + [("prove", family) for family in for_prove()]
-    for command, (name, policy, data, wanted) in asked:
-        if chosen and not any(word in name for word in chosen):
+# ---- for `pcc_auto`: what it searches
+
+NOP = 0x47FF041F
+NOT_ALLOWED = 0xA43F0040  # ldq r1,64(r31)
+
+
+def endless(count, register=None):
+    """So many loops of one branch each, to be left at any time."""
+    return [beq(CHANGED[k % 8] if register is None else register, -1) for k in range(count)]
+
+
+def loops_bare(count):
+    return container(Terms(), FILTER, endless(count) + [RETURN_1, RETURN])
+
+
+def loops_beside_shared(annotated, bare, levels):
+    """Loops whose invariants are equations of a word that is doubled so often, and loops without any."""
+    t, invariants = Terms(), []
+    for k in range(annotated):
+        whole = t.con(ADD, word(t, 2), t.lit(k))
+        for _ in range(levels):
+            whole = t.con(ADD, whole, whole)
+        invariants.append((k, t.con(EQ, whole, whole)))
+    return container(t, FILTER, endless(annotated + bare) + [RETURN_1, RETURN], invariants)
+
+
+def in_contexts(t, levels, formula):
+    """The formula under each of 2^levels choices of hypotheses."""
+    for k in range(levels):
+        formula = t.con(AND, *[t.con(IMP, t.con(ULE, t.lit(k), word(t, r)), formula) for r in (2, 3)])
+    return formula
+
+
+def last_bound(t, count, levels):
+    """Bounds of sums of a register lead to the last of them, in so many contexts."""
+    bounded = lambda k, most: t.con(ULE, t.con(ADD, word(t, 1), t.lit(k)), t.lit(most))
+    return t.con(IMP, joined(t, [bounded(k, 5) for k in range(count)]), in_contexts(t, levels, bounded(count - 1, 6)))
+
+
+def dear_before(count, levels, ways=0, hints=0):
+    """A loop with such an invariant, which is easy; then a load that isn't allowed, or so many ways to a loop whose
+    invariant asks for a right that each of so many hypotheses gives."""
+    t = Terms()
+    words, invariants = [NOP] + endless(1, 2), [(1, last_bound(t, count, levels))]
+    if hints:
+        for k in range(ways):
+            register = 3 + k % 6
+            words += [beq(register, 1), addq(register, 1, register)]
+        right = t.con(RD, t.con(ADD, word(t, 7), t.lit(8)))
+        given = joined(t, [t.con(IMP, t.con(ULT, word(t, 5), t.lit(k)), right) for k in range(hints)])
+        invariants.append((len(words), t.con(IMP, given, right)))
+        words += endless(1, 2)
+    else:
+        words.append(NOT_ALLOWED)
+    return container(t, FILTER, words + [RETURN_1, RETURN], invariants)
+
+
+def lemma_before(count):
+    """A lemma of so many instances, and code that isn't allowed."""
+    t = Terms()
+    formula, proof = instances(t, 20, count)
+    held = all_equal(t)
+    over = t.lam(t.con(IMP, held, t.lowered(formula)))
+    under = t.lam(t.con(IMP_I, held, t.lowered(formula), t.lam(proof)))
+    lemma = t.con(ALL, over), t.con(ALL_I, over, under)
+    return in_version_4(container(t, TAG, [NOT_ALLOWED, RETURN], (), None, [lemma]), DIGESTS["tag"])
+
+
+def high(count):
+    """An equation of sums of so many parts, one in the next."""
+    t = Terms()
+    whole = grown(t, word(t, 1), count)
+    return container(t, FILTER, endless(1, 2) + [NOT_ALLOWED, RETURN_1, RETURN], [(0, t.con(EQ, whole, whole))])
+
+
+SEARCHED = [  # the policy, what is made, and the first line
+    ("q, 255 loops", "filter", loops_bare, (255,), "written 36348, invariants 255"),
+    ("r, 128 shared invariants, 128 loops without", "filter", loops_beside_shared, (128, 128, 12),
+     "written 468184, invariants 256"),
+    ("s, 2,000 bounds of sums in 2^10 contexts", "filter", dear_before, (2000, 10), "part 1, from index 1"),
+    ("t, 300 hints on 2^8 ways, behind these", "filter", dear_before, (2000, 10, 8, 300), "status 5"),
+    ("u, a lemma of 13,500 instances of 20 parts", "tag", lemma_before, (13500,), "part 0, from the start"),
+    ("v, a sum of 2,000 parts", "filter", high, (2000,), "part 1, from index 0"),
+    ("v, implications 1,300 deep", "filter", alone, (implications, 1300, 1), "status 5"),
+]
+
+
+def for_auto():
+    for name, policy, made, numbers, wanted in SEARCHED:
+        yield name, policy, made(*numbers), wanted
+
+
+class Programs:
+    """The programs that are measured, and a folder for what they read and write."""
+
+    def __init__(self, pcc, native, auto, work):
+        self.pcc, self.native, self.auto, self.work = pcc, native, auto, work
+        self.file, self.out = os.path.join(work, "container"), os.path.join(work, "out")
+
+    def words(self, command, policy):
+        """The words that run a command on the file."""
+        if command in ("native", "auto"):
+            return [self.native if command == "native" else self.auto, policy, self.file, self.out]
+        return [self.pcc, command, policy, self.file] + [self.out] * (command == "prove")
+
+    def put(self, data):
+        with open(self.file, "wb") as file:
+            file.write(data)
+
+    def proved(self, policy, data):
+        """The container with the proof of `prove`."""
+        self.put(data)
+        subprocess.run([self.pcc, "prove", policy, self.file, self.file], stdout=subprocess.DEVNULL, check=False)
+        with open(self.file, "rb") as file:
+            return file.read()
+
+    def fits(self, command, name, policy, data, wanted):
+        """Prints a row; whether the line is the one wanted, and nothing is past what is looked for."""
+        self.put(data)
+        found = run(self.words(command, policy), self.work)
+        line = found.line.split("\n")[0] or "status %d" % found.status
+        slow = found.seconds > MOST[command][0] or found.megabytes > MOST[command][1]
+        note = ("" if line == wanted else "  WANTED " + wanted) + ("  TOO MUCH" if slow else "")
+        print("%-6s %-46s %9d bytes %6.2f s %5.0f MB  %s%s"
+              % (command, name, len(data), found.seconds, found.megabytes, line, note), flush=True)
+        return line == wanted and not slow
+
+
+def asked():
+    """Each file: the command, its name, the policy, the bytes, and how the first line has to be."""
+    for command, made in (("check", families), ("prove", for_prove), ("native", for_native), ("auto", for_auto)):
+        for row in made():
+            yield (command, *row)
+
+
+def main(pcc, native, auto, work, *chosen):
+    programs, passed = Programs(pcc, native, auto, work), True
+    for command, name, policy, data, wanted in asked():
+        if chosen and not any(it in name for it in chosen):
             continue
-        path = os.path.join(work, "container")
-        with open(path, "wb") as out:
-            out.write(data)
-        if wanted == "prove" and binary != "write":
-            subprocess.run([binary, "prove", policy, path, path], stdout=subprocess.DEVNULL, check=False)
-            data, wanted = open(path, "rb").read(), "accepted"
-        if binary == "write":
+        if pcc == "write":
             with open(os.path.join(work, name.replace(" ", "_").replace(",", "")), "wb") as out:
                 out.write(data)
             continue
-        found = run([binary, command, policy, path] + [os.path.join(work, "out")] * (command == "prove"), work)
-        line = found.line or "status %d" % found.status
-        slow = found.seconds > MOST[command][0] or found.megabytes > MOST[command][1]
-        passed = passed and line == wanted and not slow
-        note = ("" if line == wanted else "  WANTED " + wanted) + ("  TOO MUCH" if slow else "")
-        print("%-5s %-46s %9d bytes %6.2f s %5.0f MB  %s%s"
-              % (command, name, len(data), found.seconds, found.megabytes, line, note), flush=True)
+        if wanted == "prove":
+            data, wanted = programs.proved(policy, data), "accepted" if command == "check" else "written 37999"
+        passed = programs.fits(command, name, policy, data, wanted) and passed
     return 0 if passed else 1
 
 

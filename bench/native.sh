@@ -17,13 +17,10 @@ usage 0 "$@"
 work=$(mktemp -d)
 trap 'rm -rf "$work"' EXIT
 . "$top/bench/program.sh"
-if [ -z "${PCC_NATIVE-}" ]; then
-  "$top/tools/build" pcc_native > /dev/null || exit 1
-  PCC_NATIVE=$top/crates/native_main/out/native_main
-fi
+set_measured PCC_NATIVE pcc_native
 cd "$top"
 "${CC-gcc}" -O2 -o "$work/native_speed" bench/native_speed.c -lpcap -ldl
-python3 - "$top" "$PCC" "$(realpath "$PCC_NATIVE")" "$work" "${CC-gcc}" <<'PY'
+python3 - "$top" "$PCC" "$PCC_NATIVE" "$work" "${CC-gcc}" <<'PY'
 import os, random, statistics, struct, subprocess, sys
 top, pcc, native, work, compiler = sys.argv[1:]
 sys.dont_write_bytecode = True

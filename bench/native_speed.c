@@ -2,7 +2,8 @@
 
    usage: native_speed PACKETS ROUNDS REPEATS KIND:FILE..
    KIND is N: a shared object with `pcc_code`, as pcc_native writes it; C: a shared object with `filter`, of a packet and its
-   length; B: a program of libpcap's interpreter, as `tcpdump -ddd` prints it; E: nothing, for what a call takes.
+   length; B: a program of libpcap's interpreter, as `tcpdump -ddd` prints it; with -DWITH_LIBRARY, L: a container for the
+   policy `filter`, for libpcc's host; E: nothing, for what a call takes.
    In each repeat every file has ROUNDS passes over the packets. A line for each: nanoseconds of processor time a packet, of
    each repeat, and how many packets it takes. */
 #define _GNU_SOURCE
@@ -13,12 +14,17 @@
 #include <stdlib.h>
 #include <string.h>
 #include <time.h>
+#ifdef WITH_LIBRARY
+#include "../c/pcc.h"
+#else
+struct pcc_host { void *none; };
+#endif
 
 struct end { uint64_t word, why; };
 typedef struct end (*code_t)(const uint8_t *, uint64_t, uint64_t *, uint64_t *, uint64_t);
 typedef uint64_t (*filter_t)(const uint8_t *, uint64_t);
 struct packet { uint8_t *bytes; uint32_t length; };
-struct runner { char kind; code_t code; filter_t filter; struct bpf_insn *insns; double *times; uint64_t taken; };
+struct runner { char kind; code_t code; filter_t filter; struct bpf_insn *insns; struct pcc_host host; double *times; uint64_t taken; };
 
 static struct packet *packets;
 static size_t count;
@@ -43,9 +49,32 @@ static void call_code(struct runner *r) {
     }
 }
 
+#ifdef WITH_LIBRARY
+static void run_host(struct runner *r) {
+    for (size_t i = 0; i < count; i++) {
+        struct pcc_result result = {0};
+        if (pcc_host_run(&r->host, packets[i].bytes, packets[i].length, &result) != PCC_DONE) exit(3);
+        r->taken += result.r0 != 0;
+    }
+}
+
+static void make_host(struct runner *r, const char *path) {
+    static uint8_t container[1 << 22];
+    FILE *file = fopen(path, "rb");
+    if (!file) exit(3);
+    size_t length = fread(container, 1, sizeof container, file);
+    fclose(file);
+    if (pcc_host_new((const uint8_t *)"filter", 6, container, length, 1000000000, &r->host) != PCC_DONE) exit(3);
+}
+#else
+static void run_host(struct runner *r) { (void)r; exit(2); }
+static void make_host(struct runner *r, const char *path) { (void)r, (void)path; exit(2); }
+#endif
+
 static void pass(struct runner *r) {
     r->taken = 0;
     if (r->kind == 'N' || r->kind == 'E') call_code(r);
+    else if (r->kind == 'L') run_host(r);
     else if (r->kind == 'C') for (size_t i = 0; i < count; i++) r->taken += r->filter(packets[i].bytes, packets[i].length);
     else for (size_t i = 0; i < count; i++)
         r->taken += bpf_filter(r->insns, packets[i].bytes, packets[i].length, packets[i].length) != 0;
@@ -90,6 +119,7 @@ static void load(struct runner *r, const char *word, long repeats) {
     r->times = calloc(repeats, sizeof(double));
     if (r->kind == 'E') r->code = nothing;
     else if (r->kind == 'N') r->code = (code_t)symbol(word + 2, "pcc_code");
+    else if (r->kind == 'L') make_host(r, word + 2);
     else if (r->kind == 'C') r->filter = (filter_t)symbol(word + 2, "filter");
     else r->insns = read_program(word + 2);
 }

@@ -21,6 +21,7 @@ use Rattle.x86_machine.specs.Machine.{X86}
 use Rattle.native_steps.specs.Places.{Places}
 use Rattle.native_steps.specs.Agreement.{Call}
 use Rattle.native_code.specs.Heads.{IsLoopHead, is_loop_head}
+use Rattle.native_code.specs.Lives.{Lean}
 use Rattle.native_code.specs.Layout.{native_text}
 use Rattle.native_code.specs.Calls.{IsCallEnd}
 use Rattle.native_code.specs.Ends.{IsAllowedRun, IsSafeCall, ReturnsAs, IsSafeEnd, LeavesWithin, SafeCalls, ReturningCalls}
@@ -51,30 +52,32 @@ module _ (code : List Insn) (s : State) (word : ℕ) (runs : (n : ℕ) → 1000 
 
   -- ---- a call, if fuel isn't counted
 
-  module _ (p : Places) (call : Call) (x : X86) (safe : IsSafeCall p code call s x) (same : (n : ℕ) → (run_of code n s).1.memory ≡ s.memory) where
-    returned : (y : X86) → ReturnsAs false code call s y → IsCallEnd call word 0 s y
-    returned y r = record {
-      word_is = r.end.word_is ∙ word-is r.steps r.word r.state r.run;
-      why_is = r.end.why_is;
-      kept = r.end.kept;
-      memory = λ a outside.
-          r.end.memory a outside
-          ∙ ap (λ m. read m a) (ap (λ (q : Outcome × State). q.1.memory) (sym r.run) ∙ same r.steps);
-    }
+  module _ (p : Places) (lean : Lean) (call : Call) (x : X86) (safe : IsSafeCall p lean code call s x)
+      (same : (n : ℕ) → (run_of code n s).1.memory ≡ s.memory)
+    where
+      returned : (y : X86) → ReturnsAs false code call s y → IsCallEnd call word 0 s y
+      returned y r = record {
+        word_is = r.end.word_is ∙ word-is r.steps r.word r.state r.run;
+        why_is = r.end.why_is;
+        kept = r.end.kept;
+        memory = λ a outside.
+            r.end.memory a outside
+            ∙ ap (λ m. read m a) (ap (λ (q : Outcome × State). q.1.memory) (sym r.run) ∙ same r.steps);
+      }
 
-    left : (y : X86) → IsSafeEnd false code call s (outcomes.Left, y) → IsCallEnd call word 0 s y
-    left y (inl r) = returned y r
-    left y (inr out) = let wrong : false ≡ true = out.counted in absurd cc
+      left : (y : X86) → IsSafeEnd false code call s (outcomes.Left, y) → IsCallEnd call word 0 s y
+      left y (inl r) = returned y r
+      left y (inr out) = let wrong : false ≡ true = out.counted in absurd cc
 
-    pub answers : SafeCalls → ReturningCalls → AnswersWith (native_text p false code) word 10100 call s x
-    answers calls returning =
-        let end : State = (run_of code 1000 s).1 in
-        let run : run_of code 1000 s ≡ (Returned word, end) = ap (λ (o : Outcome). (o, end)) (runs 1000 (omega arith)) in
-        let l : LeavesWithin (native_text p false code) 10100 x = returning p code call s end x 1000 word safe run in
-        record {
-          leaves = l;
-          returns = left l.end (subst (IsSafeEnd false code call s) l.left (calls p false code call s x safe l.count));
-        }
+      pub answers : SafeCalls → ReturningCalls → AnswersWith (native_text p lean false code) word 10100 call s x
+      answers calls returning =
+          let end : State = (run_of code 1000 s).1 in
+          let run : run_of code 1000 s ≡ (Returned word, end) = ap (λ (o : Outcome). (o, end)) (runs 1000 (omega arith)) in
+          let l : LeavesWithin (native_text p lean false code) 10100 x = returning p lean code call s end x 1000 word safe run in
+          record {
+            leaves = l;
+            returns = left l.end (subst (IsSafeEnd false code call s) l.left (calls p lean false code call s x safe l.count));
+          }
 
 -- ---- the code of a program
 
@@ -104,8 +107,9 @@ programs-answer calls returning heads forward simulates coded program packet tex
     let few = is.few in
     let runs : (n : ℕ) → 1000 ≤ n → (run_of code n s).0 ≡ Returned word =
     λ n enough. simulates program packet n s is bytes may.starts (omega (arith, enough, few)) in
-    let safe : IsSafeCall t.places code call s x = record {
+    let safe : IsSafeCall t.places t.lean code call s x = record {
       is_code = coded program is;
+      lives = t.lives;
       places = t.lawful;
       state = may.state;
       lent = may.lent;
@@ -113,5 +117,5 @@ programs-answer calls returning heads forward simulates coded program packet tex
       allowed = never-blocked code s word runs;
     } in
     subst (λ (b : List ℕ). AnswersWith b word 10100 call s x)
-    (sym (t.text ∙ same-text t.places code (no-head forward heads program is) metered))
-    (answers code s word runs t.places call x safe (λ n. run-same code n s (code-keeps program)) calls returning)
+    (sym (t.text ∙ same-text t.places t.lean code (no-head forward heads program is) metered))
+    (answers code s word runs t.places t.lean call x safe (λ n. run-same code n s (code-keeps program)) calls returning)

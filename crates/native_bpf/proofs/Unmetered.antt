@@ -10,26 +10,27 @@ use Rattle.x86_words.specs.declared.operators.X86Cond.TheVariants.{Below}
 use Rattle.x86_words.specs.declared.insn.X86Insn.TheVariants.{AluImm}
 use Rattle.x86_words.specs.Encoding.{bytes_of}
 use Rattle.native_steps.specs.Places.{Places, FUEL}
-use Rattle.native_steps.specs.Sequences.{insn_code}
 use Rattle.native_code.specs.declared.insn.NativeInsn.{NativeInsn}
 use Rattle.native_code.specs.declared.insn.NativeInsn.TheVariants.{Plain, GoIf}
 use Rattle.native_code.specs.Heads.{is_loop_head}
-use Rattle.native_code.specs.Blocks.{plain, end_code, fuel_code, block_at}
+use Rattle.native_code.specs.Lives.{Lean, form_at}
+use Rattle.native_code.specs.Blocks.{plain, form_code, form_end, fuel_code, block_at}
 use Rattle.native_code.specs.Layout.{code_length, placed_from, aligned_front, front_code, native_text}
 
-module _ (p : Places) (code : List Insn) (none : (i : ℕ) → is_loop_head code i ≡ false) where
-  no-fuel : (i : ℕ) → fuel_code p true code i ≡ []
+module _ (p : Places) (lean : Lean) (code : List Insn) (none : (i : ℕ) → is_loop_head code i ≡ false) where
+  no-fuel : (i : ℕ) → fuel_code p lean true code i ≡ []
   no-fuel i = ap (λ (b : Bool). if true && b then Plain (AluImm Sub FUEL (pos 1)) ∷ GoIf Below (length code) ∷ [] else []) (none i)
 
-  same-block : (i : ℕ) (o : Option Insn) → block_at p true code i o ≡ block_at p false code i o
+  same-block : (i : ℕ) (o : Option Insn) → block_at p lean true code i o ≡ block_at p lean false code i o
   same-block i None = refl
   same-block i (Some insn) =
-      ap (λ (fuel : List NativeInsn). fuel ++ (plain (insn_code p insn) ++ end_code p (action_of insn) (jump_of i insn))) (no-fuel i)
+      let action = action_of insn in
+      ap (λ (fuel : List NativeInsn). fuel ++ (plain (form_code p (form_at lean i) action) ++ form_end p (form_at lean i) action (jump_of i insn))) (no-fuel i)
 
-  same-front : (k : ℕ) → front_code p true code k ≡ front_code p false code k
+  same-front : (k : ℕ) → front_code p lean true code k ≡ front_code p lean false code k
   same-front zero = refl
-  same-front (suc k) = λ j. aligned_front p false code (suc k) (same-front k j ++ same-block k (slice_get code k) j)
+  same-front (suc k) = λ j. aligned_front p lean false code (suc k) (same-front k j ++ same-block k (slice_get code k) j)
 
-  pub same-text : (metered : Bool) → native_text p metered code ≡ native_text p false code
+  pub same-text : (metered : Bool) → native_text p lean metered code ≡ native_text p lean false code
   same-text true = λ j. flat_map bytes_of (placed_from (λ k. code_length (same-front k j)) 0 (same-front (suc (length code)) j))
   same-text false = refl

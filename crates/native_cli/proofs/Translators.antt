@@ -34,6 +34,8 @@ use Rattle.pcc_stages.proofs.RunLemmas.{no_stop}
 use Rattle.native_steps.specs.declared.places.Place.TheVariants.{Register, Slot, Nowhere}
 use Rattle.native_steps.specs.Places.{Places, ArePlaces, IsSomewhere, is_somewhere, place_at}
 use Rattle.native_steps.specs.Sequences.{ReadsPlaced, RhsIsPlaced}
+use Rattle.native_code.specs.declared.insn.Form.TheVariants.{Whole, Gone}
+use Rattle.native_code.specs.Lives.{Lean, RhsIsLive, ReadsLive, IsLean}
 use Rattle.native_code.specs.Calls.{ArePlacesOf}
 use Rattle.native_code.specs.Layout.{native_text}
 use Rattle.native_translator.specs.Translation.{IsTranslation}
@@ -79,10 +81,43 @@ reads-in-slots (actions.Branching Always) h = tt
 reads-in-slots (actions.Branching (When c r)) h = in-slot r h
 reads-in-slots actions.Return h = in-slot 0 (omega arith)
 
-slots-lawful : (code : List Insn) → IsCode code → ArePlacesOf slots code
+-- ---- nothing is left out
+
+-- all instructions are done whole, and all registers are live
+abbrev whole : Lean
+whole = record { forms = []; live = λ i r. true }
+
+rhs-lives : (i : ℕ) (rhs : Rhs) → RhsIsLive whole i rhs
+rhs-lives i (Reg r) = inr refl
+rhs-lives i (Lit n) = tt
+
+reads-live : (i : ℕ) (e : Action) → ReadsLive whole i e
+reads-live i (actions.Compute to (Sum base disp)) = inr refl
+reads-live i (actions.Compute to (Applied op left right)) = (inr refl, rhs-lives i right)
+reads-live i (actions.Load to base disp) = inr refl
+reads-live i (actions.LoadAround to base disp) = inr refl
+reads-live i (actions.Store from base disp) = (inr refl, inr refl)
+reads-live i (actions.Branching Always) = tt
+reads-live i (actions.Branching (When c r)) = inr refl
+reads-live i actions.Return = inr refl
+
+not-gone : Whole ≡ Gone → ⊥
+not-gone e = absurd cc
+
+whole-right : (code : List Insn) → IsLean whole code
+whole-right code = record {
+  at = λ i insn here kept. record {
+    fits = reads-live i (action_of insn);
+    flows = λ j r goes live. inr refl;
+    kept = λ j goes. not-gone;
+  };
+  start = not-gone;
+}
+
+slots-lawful : (code : List Insn) → IsCode code → ArePlacesOf slots whole code
 slots-lawful code ok = record {
   places = slot-places;
-  reads = λ i insn here. reads-in-slots (action_of insn) (action_of-operands insn (ok.encoded i insn here));
+  reads = λ i insn here read. reads-in-slots (action_of insn) (action_of-operands insn (ok.encoded i insn here));
 }
 
 -- ---- what is accepted
@@ -153,7 +188,7 @@ module _ (first : AcceptedFirst) where
   -- ---- one for all containers
 
   abbrev default-code : Contents → Result (List Insn) CodeFlaw → List ℕ
-  default-code c (Ok code) = native_text slots (is_metered c.bound) code
+  default-code c (Ok code) = native_text slots whole (is_metered c.bound) code
   default-code c (Err flaw) = []
 
   abbrev default-of : Result Contents Fault → List ℕ
@@ -167,6 +202,8 @@ module _ (first : AcceptedFirst) where
       → IsTranslation (is_metered a.contents.bound) a.code (any-texts bytes)
   any-accepted policy bytes a = record {
     places = slots;
+    lean = whole;
+    lives = whole-right a.code;
     lawful = slots-lawful a.code a.accepts.passes.has.code;
     text = ap default-of (sym (holds policy bytes a)) ∙ ap (default-code a.contents) (sym (reads-as policy bytes a));
   }

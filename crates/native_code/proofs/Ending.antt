@@ -22,6 +22,7 @@ use Rattle.native_steps.specs.Places.{Places}
 use Rattle.native_steps.specs.Agreement.{Call, IsLent}
 use Rattle.native_code.specs.declared.insn.NativeInsn.{NativeInsn}
 use Rattle.native_code.specs.Heads.{is_loop_head, if_moved, arrivals, fuel_of}
+use Rattle.native_code.specs.Lives.{Lean, IsLean}
 use Rattle.native_code.specs.Blocks.{plain, spent_code, block_at, RDX}
 use Rattle.native_code.specs.Layout.{native_length, placed_from, front_code, whole_code, offset_of, native_insns, native_text}
 use Rattle.native_code.specs.Calls.{ArePlacesOf, spend, IsCallEnd, AgreesAt}
@@ -135,24 +136,20 @@ outside-not code s none allowed =
 
 -- ---- never stuck
 
-module _ (p : Places) (metered : Bool) (code : List Insn) (ok : IsCode code) (of : ArePlacesOf p code) where
+module _ (p : Places) (lean : Lean) (metered : Bool) (code : List Insn) (ok : IsCode code) (lives : IsLean lean code) (of : ArePlacesOf p lean code) where
   abbrev text : List ℕ
-  text = native_text p metered code
+  text = native_text p lean metered code
 
-  -- every run of at most n steps ends well
-  abbrev SafeAll : ℕ → Type 0
-  SafeAll n =
-      (m : ℕ) → m ≤ n → (call : Call) (s : State) (x : X86) → IsState s → IsLent call s.rights → AgreesAt p metered code call s x →
-      ((k : ℕ) → IsAllowedRun (run_of code k s).0) →
+  -- every run of at most n steps, from so far before the end of the code, ends well: a step of the Alpha code may be none of native code
+  abbrev SafeAll : ℕ → ℕ → Type 0
+  SafeAll n d =
+      (m : ℕ) → m ≤ n → (call : Call) (s : State) (x : X86) → IsState s → IsLent call s.rights → AgreesAt p lean metered code call s x →
+      ((k : ℕ) → IsAllowedRun (run_of code k s).0) → length code ≤ d + s.index →
       IsSafeEnd metered code call s (x86_run text m x)
 
-  safe-none : (m : ℕ) → m ≤ 0 → (call : Call) (s : State) (x : X86) → IsSafeEnd metered code call s (x86_run text m x)
-  safe-none zero low call s x = tt
-  safe-none (suc m) low call s x = absurd (omega (arith, low))
-
-  module _ (n : ℕ) (rest : SafeAll n) (m : ℕ) (low : m ≤ suc n) (call : Call) (s : State) (x : X86) (state : IsState s) (lent : IsLent call s.rights)
-      (a : AgreesAt p metered code call s x) (allowed : (k : ℕ) → IsAllowedRun (run_of code k s).0) (insn : Insn)
-      (here : slice_get code s.index ≡ Some insn)
+  module _ (n d : ℕ) (less : (b : ℕ) → suc b ≡ n → (e : ℕ) → SafeAll b e) (near_by : (e : ℕ) → suc e ≡ d → SafeAll n e) (m : ℕ) (low : m ≤ n) (call : Call)
+      (s : State) (x : X86) (state : IsState s) (lent : IsLent call s.rights) (a : AgreesAt p lean metered code call s x)
+      (allowed : (k : ℕ) → IsAllowedRun (run_of code k s).0) (far : length code ≤ d + s.index) (insn : Insn) (here : slice_get code s.index ≡ Some insn)
     where
       abbrev units : ℕ
       units = cond (metered && is_loop_head code s.index) 1 0
@@ -196,26 +193,40 @@ module _ (p : Places) (metered : Bool) (code : List Insn) (ok : IsCode code) (of
       later u e enough (outcomes.Left, y) h = elim h [ inl r ↦ inl (later-return u y e enough r) | inr r ↦ inr (later-out u y e enough r) ]
       later u e enough (outcomes.Stuck, y) h = absurd h
 
-      safe-dry : takes p metered code ok of call s x state lent a ≡ true → call.fuel ≡ 0 → IsSafeEnd metered code call s (x86_run text m x)
+      safe-dry : takes p lean metered code ok lives of call s x state lent a ≡ true → call.fuel ≡ 0 → IsSafeEnd metered code call s (x86_run text m x)
       safe-dry wanted none =
-          let l = missing p metered code ok of call s x state lent a insn here wanted none in
+          let l = missing p lean metered code ok lives of call s x state lent a insn here wanted none in
           let both = and-both metered (is_loop_head code s.index) wanted in
           let count = arrived code s insn here (insn_outcome insn s) refl 0 in
           let one = one-unit (is_loop_head code s.index) both.1 in
           after-left l.count m text x l.end (IsSafeEnd metered code call s) l.left (λ z. tt)
           (inr (record { counted = both.0; steps = 0; more = omega (arith, count, one, none); end = l.returns }))
 
+      -- the rest: there are fewer steps, or the index is nearer to the end
+      rest : (u : State) (y : X86) (count k : ℕ) → insn_outcome insn s ≡ (moves.Moved, u) → (1 ≤ count) ⊎ (s.index < u.index) → count + k ≡ m →
+          AgreesAt p lean metered code (spend call units) u y →
+          IsSafeEnd metered code (spend call units) u (x86_run text k y)
+      rest u y count k e on sum after =
+          let state-then = state-after p lean metered code ok lives of call s x state lent a insn here u e in
+          let lent-then = lent-after p lean metered code ok lives of call s x state lent a insn here (call.fuel - units) u e in
+          let allowed-then = allowed-after code s insn here u e allowed in
+          elim on [
+            | inl some ↦
+                less (n - 1) (omega (arith, sum, some, low)) (length code) k (omega (arith, sum, some, low)) (spend call units) u y state-then lent-then after
+                allowed-then (omega arith)
+            | inr further ↦
+                let inside = slice_get_within code s.index insn here in
+                near_by (d - 1) (omega (arith, inside, far)) k (omega (arith, sum, low)) (spend call units) u y state-then lent-then after allowed-then
+                (omega (arith, further, far, inside))
+          ]
+
       safe-by : (q : Step × State) → insn_outcome insn s ≡ q → units ≤ call.fuel → IsSafeEnd metered code call s (x86_run text m x)
       safe-by (moves.Moved, u) e enough =
-          let r = steps-on p metered code ok of call s x state lent a insn here u enough e in
-          let some = r.some in
+          let r = steps-on p lean metered code ok lives of call s x state lent a insn here u enough e in
           from-reached m text x r.end (IsSafeEnd metered code call s) r.reaches (λ z. tt)
-          (λ k sum. later u e enough (x86_run text k r.end)
-          (rest k (omega (arith, sum, some, low)) (spend call units) u r.end (state-after p metered code ok of call s x state lent a insn here u e)
-          (lent-after p metered code ok of call s x state lent a insn here (call.fuel - units) u e) r.agrees_then
-          (allowed-after code s insn here u e allowed)))
+          (λ k sum. later u e enough (x86_run text k r.end) (rest u r.end r.count k e r.on sum r.agrees_then))
       safe-by (moves.Returned, u) e enough =
-          let r = ends-so p metered code ok of call s x state lent a insn here u enough e in
+          let r = ends-so p lean metered code ok lives of call s x state lent a insn here u enough e in
           let l = r.leaves in
           let count : fuel_of metered code 1 s ≡ units + cond metered 0 0 =
           ap (λ k. cond metered k 0) (arrived code s insn here (moves.Returned, u) e 0) ∙ sum-is metered (is_loop_head code s.index) 0 in
@@ -242,22 +253,31 @@ module _ (p : Places) (metered : Bool) (code : List Insn) (ok : IsCode code) (of
         | inr enough ↦ safe-by (insn_outcome insn s) refl enough
       ]
 
-  safe-at : (o : Option Insn) (n : ℕ) → SafeAll n → (m : ℕ) → m ≤ suc n → (call : Call) (s : State) (x : X86) → IsState s → IsLent call s.rights →
-      AgreesAt p metered code call s x → ((k : ℕ) → IsAllowedRun (run_of code k s).0) → slice_get code s.index ≡ o →
+  safe-at : (o : Option Insn) (n d : ℕ) → ((b : ℕ) → suc b ≡ n → (e : ℕ) → SafeAll b e) → ((e : ℕ) → suc e ≡ d → SafeAll n e) → (m : ℕ) → m ≤ n →
+      (call : Call) (s : State) (x : X86) → IsState s → IsLent call s.rights → AgreesAt p lean metered code call s x →
+      ((k : ℕ) → IsAllowedRun (run_of code k s).0) → length code ≤ d + s.index → slice_get code s.index ≡ o →
       IsSafeEnd metered code call s (x86_run text m x)
-  safe-at None n rest m low call s x state lent a allowed here = absurd (outside-not code s here allowed)
-  safe-at (Some insn) n rest m low call s x state lent a allowed here = safe-insn n rest m low call s x state lent a allowed insn here
+  safe-at None n d less near_by m low call s x state lent a allowed far here = absurd (outside-not code s here allowed)
+  safe-at (Some insn) n d less near_by m low call s x state lent a allowed far here =
+      safe-insn n d less near_by m low call s x state lent a allowed far insn here
 
-  safe-all : (n : ℕ) → SafeAll n
-  safe-all zero = λ m low call s x state lent a allowed. safe-none m low call s x
-  safe-all (suc n) = λ m low call s x state lent a allowed.
-      safe-at (slice_get code s.index) n (safe-all n) m low call s x state lent a allowed refl
+  safe-near : (n : ℕ) → ((b : ℕ) → suc b ≡ n → (e : ℕ) → SafeAll b e) → (d : ℕ) → SafeAll n d
+  safe-near n less zero = λ m low call s x state lent a allowed far.
+      safe-at (slice_get code s.index) n zero less (λ e wrong. absurd (omega (arith, wrong))) m low call s x state lent a allowed far refl
+  safe-near n less (suc d) = λ m low call s x state lent a allowed far.
+      safe-at (slice_get code s.index) n (suc d) less
+      (λ e same. let is : d ≡ e = omega (arith, same) in subst (λ k. SafeAll n k) is (safe-near n less d)) m low call s x state lent a allowed far refl
+
+  safe-all : (n d : ℕ) → SafeAll n d
+  safe-all zero d = safe-near zero (λ b wrong e. absurd (omega (arith, wrong))) d
+  safe-all (suc n) d = safe-near (suc n) (λ b same e. let is : n ≡ b = omega (arith, same) in subst (λ k. SafeAll k e) is (safe-all n e)) d
 
 pub safe : SafeCalls
-safe = λ p metered code call s x h n.
-    let e = begins p metered code call s x h.is_code h.places.places h.state h.lent h.begins in
-    from-reached n (native_text p metered code) x e.end (IsSafeEnd metered code call s) e.reaches (λ z. tt)
-    (λ k sum. safe-all p metered code h.is_code h.places k k (omega arith) call s e.end h.state h.lent e.agrees h.allowed)
+safe = λ p lean metered code call s x h n.
+    let e = begins p lean metered code call s x h.is_code h.lives h.places.places h.state h.lent h.begins in
+    from-reached n (native_text p lean metered code) x e.end (IsSafeEnd metered code call s) e.reaches (λ z. tt)
+    (λ k sum. safe-all p lean metered code h.is_code h.lives h.places k (length code) k (omega arith) call s e.end h.state h.lent e.agrees h.allowed
+    (omega arith))
 
 -- ---- where blocks begin, in instructions
 
@@ -268,15 +288,15 @@ placed-count offset at (i ∷ rest) = ap suc (placed-count offset (at + native_l
 suc-times : (b w : ℕ) → suc b * w ≡ b * w + w
 suc-times b w = omega arith
 
-module _ (p : Places) (metered : Bool) (code : List Insn) where
+module _ (p : Places) (lean : Lean) (metered : Bool) (code : List Insn) where
   -- the instructions in front of a block
   abbrev before : ℕ → ℕ
-  before k = length (front_code p metered code k)
+  before k = length (front_code p lean metered code k)
 
-  before-next : (k : ℕ) → before (suc k) ≡ before k + length (block p metered code k) + length (gap p metered code k)
+  before-next : (k : ℕ) → before (suc k) ≡ before k + length (block p lean metered code k) + length (gap p lean metered code k)
   before-next k =
-      length-append (front_code p metered code k ++ block p metered code k) (gap p metered code k)
-      ∙ ap (λ n. n + length (gap p metered code k)) (length-append (front_code p metered code k) (block p metered code k))
+      length-append (front_code p lean metered code k ++ block p lean metered code k) (gap p lean metered code k)
+      ∙ ap (λ n. n + length (gap p lean metered code k)) (length-append (front_code p lean metered code k) (block p lean metered code k))
 
   before-later : (n k : ℕ) → k ≤ n → before k ≤ before n
   before-later zero k h = let none : k ≡ 0 = omega (arith, h) in let same : before k ≡ before 0 = ap before none in omega (arith, same)
@@ -287,16 +307,16 @@ module _ (p : Places) (metered : Bool) (code : List Insn) where
 
   -- all instructions
   abbrev all : ℕ
-  all = length (native_insns p metered code)
+  all = length (native_insns p lean metered code)
 
   all-is : before (length code) + length (spent_code p) ≤ all
   all-is =
       let n : ℕ = length code in
       let none : slice_get code n ≡ None = slice_get_past code n (omega arith) in
-      let last : length (block p metered code n) ≡ length (plain (spent_code p)) = ap (λ o. length (block_at p metered code n o)) none in
+      let last : length (block p lean metered code n) ≡ length (plain (spent_code p)) = ap (λ o. length (block_at p lean metered code n o)) none in
       let same = plain-count (spent_code p) in
       let next = before-next n in
-      let whole : all ≡ before (suc n) = placed-count (offset_of p metered code) 0 (whole_code p metered code) in
+      let whole : all ≡ before (suc n) = placed-count (offset_of p lean metered code) 0 (whole_code p lean metered code) in
       omega (arith, last, same, next, whole)
 
 -- ---- so many steps at most
@@ -309,23 +329,23 @@ leave-later {k = k} text x y m n r sum l = record {
   left = r.runs l.count ∙ l.left;
 }
 
-leaves-less : (p : Places) (metered : Bool) (code : List Insn) (ok : IsCode code) (of : ArePlacesOf p code) (call : Call) (word why most n : ℕ) (t : State)
-    (x : X86) → most ≤ n → LeavesIn p metered code ok of call word why t x most →
-    LeavesWithin (native_text p metered code) n x
-leaves-less p metered code ok of call word why most n t x h l =
+leaves-less : (p : Places) (lean : Lean) (metered : Bool) (code : List Insn) (ok : IsCode code) (lives : IsLean lean code) (of : ArePlacesOf p lean code)
+    (call : Call) (word why most n : ℕ) (t : State) (x : X86) → most ≤ n → LeavesIn p lean metered code ok lives of call word why t x most →
+    LeavesWithin (native_text p lean metered code) n x
+leaves-less p lean metered code ok lives of call word why most n t x h l =
     record { count = l.count; within = let w = l.within in omega (arith, h, w); end = l.end; left = l.left }
 
 -- ---- in time, if fuel is counted
 
-module _ (p : Places) (code : List Insn) (ok : IsCode code) (of : ArePlacesOf p code) where
+module _ (p : Places) (lean : Lean) (code : List Insn) (ok : IsCode code) (lives : IsLean lean code) (of : ArePlacesOf p lean code) where
   abbrev metered_text : List ℕ
-  metered_text = native_text p true code
+  metered_text = native_text p lean true code
 
   abbrev whole : ℕ
-  whole = all p true code
+  whole = all p lean true code
 
   abbrev start : ℕ → ℕ
-  start = before p true code
+  start = before p lean true code
 
   -- how often the run may come to a loop head, and to the end of the text
   abbrev rounds : Call → State → ℕ
@@ -334,12 +354,12 @@ module _ (p : Places) (code : List Insn) (ok : IsCode code) (of : ArePlacesOf p 
   -- with so many rounds, from so far before the end, the call ends
   abbrev AllLeave : ℕ → ℕ → Type 0
   AllLeave a d =
-      (call : Call) (s : State) (x : X86) (m : ℕ) → IsState s → IsLent call s.rights → AgreesAt p true code call s x →
+      (call : Call) (s : State) (x : X86) (m : ℕ) → IsState s → IsLent call s.rights → AgreesAt p lean true code call s x →
       ((k : ℕ) → IsAllowedRun (run_of code k s).0) → rounds call s ≤ a → length code ≤ d + s.index → a * whole + whole ≤ m + start s.index →
       LeavesWithin metered_text m x
 
   module _ (a d : ℕ) (less : (b : ℕ) → suc b ≡ a → (e : ℕ) → AllLeave b e) (near_by : (e : ℕ) → suc e ≡ d → AllLeave a e) (call : Call) (s : State) (x : X86)
-      (m : ℕ) (state : IsState s) (lent : IsLent call s.rights) (agrees : AgreesAt p true code call s x)
+      (m : ℕ) (state : IsState s) (lent : IsLent call s.rights) (agrees : AgreesAt p lean true code call s x)
       (allowed : (k : ℕ) → IsAllowedRun (run_of code k s).0) (few : rounds call s ≤ a) (far : length code ≤ d + s.index)
       (room : a * whole + whole ≤ m + start s.index) (insn : Insn) (here : slice_get code s.index ≡ Some insn)
     where
@@ -350,7 +370,7 @@ module _ (p : Places) (code : List Insn) (ok : IsCode code) (of : ArePlacesOf p 
       unit = cond head 1 0
 
       abbrev here_size : ℕ
-      here_size = length (block p true code s.index) + length (gap p true code s.index)
+      here_size = length (block p lean true code s.index) + length (gap p lean true code s.index)
 
       inside : s.index < length code
       inside = slice_get_within code s.index insn here
@@ -358,10 +378,10 @@ module _ (p : Places) (code : List Insn) (ok : IsCode code) (of : ArePlacesOf p 
       -- the block is in front of the last
       block-room : start s.index + here_size + length (spent_code p) ≤ whole
       block-room =
-          let next = before-next p true code s.index in
+          let next = before-next p lean true code s.index in
           let low = inside in
-          let last = before-later p true code (length code) (suc s.index) (omega (arith, low)) in
-          let sum = all-is p true code in
+          let last = before-later p lean true code (length code) (suc s.index) (omega (arith, low)) in
+          let sum = all-is p lean true code in
           omega (arith, next, last, sum)
 
       -- there are steps enough for it
@@ -401,13 +421,13 @@ module _ (p : Places) (code : List Insn) (ok : IsCode code) (of : ArePlacesOf p 
 
       -- the rest, by whether the next index is a loop head
       rest-leaves : (u : State) (y : X86) (k n : ℕ) → unit ≤ call.fuel → k ≤ here_size → k + n ≡ m → insn_outcome insn s ≡ (moves.Moved, u) →
-          (u.index ≡ suc s.index) ⊎ (jump_of s.index insn ≡ Some u.index) → AgreesAt p true code (spend call unit) u y →
+          (u.index ≡ suc s.index) ⊎ (jump_of s.index insn ≡ Some u.index) → AgreesAt p lean true code (spend call unit) u y →
           LeavesWithin metered_text n y
       rest-leaves u y k n enough small sum e next after =
           let left = rounds-left enough in
           let gap = block-room in
-          let state-then = state-after p true code ok of call s x state lent agrees insn here u e in
-          let lent-then = lent-after p true code ok of call s x state lent agrees insn here (call.fuel - unit) u e in
+          let state-then = state-after p lean true code ok lives of call s x state lent agrees insn here u e in
+          let lent-then = lent-after p lean true code ok lives of call s x state lent agrees insn here (call.fuel - unit) u e in
           let allowed-then = allowed-after code s insn here u e allowed in
           elim (cases_Bool (is_loop_head code u.index)) [
             | inl is ↦
@@ -422,24 +442,24 @@ module _ (p : Places) (code : List Insn) (ok : IsCode code) (of : ArePlacesOf p 
                 let one : ◌≡◌ {A = ℕ} (cond (is_loop_head code u.index) 0 1) 1 = ap (λ v. cond v 0 1) other in
                 let low = index-after u e in
                 let back : suc (d - 1) ≡ d = omega (arith, far, on, low) in
-                let later = before-later p true code u.index (suc s.index) (omega (arith, on)) in
-                let next-start = before-next p true code s.index in
+                let later = before-later p lean true code u.index (suc s.index) (omega (arith, on)) in
+                let next-start = before-next p lean true code s.index in
                 near_by (d - 1) back (spend call unit) u y n state-then lent-then after allowed-then (omega (arith, left, one)) (omega (arith, far, on))
                 (omega (arith, room, small, sum, later, next-start))
           ]
 
       leave-by : (q : Step × State) → insn_outcome insn s ≡ q → unit ≤ call.fuel → LeavesWithin metered_text m x
       leave-by (moves.Moved, u) e enough =
-          let r = steps-on p true code ok of call s x state lent agrees insn here u enough e in
+          let r = steps-on p lean true code ok lives of call s x state lent agrees insn here u enough e in
           let small : r.count ≤ here_size = r.few in
           let enough-steps = fits in
           leave-later metered_text x r.end (m - r.count) m r.reaches (omega (arith, small, enough-steps))
           (rest-leaves u r.end r.count (m - r.count) enough small (omega (arith, small, enough-steps)) e r.next r.agrees_then)
       leave-by (moves.Returned, u) e enough =
-          let r = ends-so p true code ok of call s x state lent agrees insn here u enough e in
+          let r = ends-so p lean true code ok lives of call s x state lent agrees insn here u enough e in
           let small : r.most ≤ here_size = r.few in
           let enough-steps = fits in
-          leaves-less p true code ok of call (slice_index u.regs 0) 0 r.most m u x (omega (arith, small, enough-steps)) r.leaves
+          leaves-less p lean true code ok lives of call (slice_index u.regs 0) 0 r.most m u x (omega (arith, small, enough-steps)) r.leaves
       leave-by (moves.Blocked index kind addr, u) e enough = absurd (unblocked code s insn here index kind addr u e allowed)
 
       leave-insn : LeavesWithin metered_text m x
@@ -447,17 +467,17 @@ module _ (p : Places) (code : List Insn) (ok : IsCode code) (of : ArePlacesOf p 
         | inl dry ↦ elim (cases_Bool head) [
           | inl is ↦
               let one = one-unit head is in
-              let two : 2 ≤ here_size = wanted-size p true code ok of call s x state lent agrees insn here is in
+              let two : 2 ≤ here_size = wanted-size p lean true code ok lives of call s x state lent agrees insn here is in
               let enough-steps = fits in
-              leaves-less p true code ok of call 0 1 (2 + length (spent_code p)) m s x (omega (arith, two, enough-steps))
-              (missing p true code ok of call s x state lent agrees insn here is (omega (arith, dry, one)))
+              leaves-less p lean true code ok lives of call 0 1 (2 + length (spent_code p)) m s x (omega (arith, two, enough-steps))
+              (missing p lean true code ok lives of call s x state lent agrees insn here is (omega (arith, dry, one)))
           | inr other ↦ let none = no-unit head other in absurd (omega (arith, dry, none))
         ]
         | inr enough ↦ leave-by (insn_outcome insn s) refl enough
       ]
 
   leave-at : (o : Option Insn) (a d : ℕ) → ((b : ℕ) → suc b ≡ a → (e : ℕ) → AllLeave b e) → ((e : ℕ) → suc e ≡ d → AllLeave a e) →
-      (call : Call) (s : State) (x : X86) (m : ℕ) → IsState s → IsLent call s.rights → AgreesAt p true code call s x →
+      (call : Call) (s : State) (x : X86) (m : ℕ) → IsState s → IsLent call s.rights → AgreesAt p lean true code call s x →
       ((k : ℕ) → IsAllowedRun (run_of code k s).0) → rounds call s ≤ a → length code ≤ d + s.index → a * whole + whole ≤ m + start s.index →
       slice_get code s.index ≡ o → LeavesWithin metered_text m x
   leave-at None a d less near_by call s x m state lent agrees allowed few far room here = absurd (outside-not code s here allowed)
@@ -477,12 +497,12 @@ module _ (p : Places) (code : List Insn) (ok : IsCode code) (of : ArePlacesOf p 
   leave-all (suc a) d = leave-near (suc a) (λ b same e. let is : a ≡ b = omega (arith, same) in subst (λ k. AllLeave k e) is (leave-all a e)) d
 
 -- how a call ended that left
-module _ (p : Places) (code : List Insn) (call : Call) (s : State) (x : X86) (h : IsSafeCall p code call s x) (most : ℕ)
-    (l : LeavesWithin (native_text p true code) most x)
+module _ (p : Places) (lean : Lean) (code : List Insn) (call : Call) (s : State) (x : X86) (h : IsSafeCall p lean code call s x) (most : ℕ)
+    (l : LeavesWithin (native_text p lean true code) most x)
   where
     out-from : slice_index l.end.regs RDX ≡ 1 → (n : ℕ) × (call.fuel < arrivals code n s)
     out-from one =
-        let q : IsSafeEnd true code call s (outcomes.Left, l.end) = subst (IsSafeEnd true code call s) l.left (safe p true code call s x h l.count) in
+        let q : IsSafeEnd true code call s (outcomes.Left, l.end) = subst (IsSafeEnd true code call s) l.left (safe p lean true code call s x h l.count) in
         elim q [
           | inl r ↦ let none : slice_index l.end.regs RDX ≡ 0 = r.end.why_is in absurd (omega (arith, none, one))
           | inr r ↦ (suc r.steps, r.more)
@@ -490,68 +510,68 @@ module _ (p : Places) (code : List Insn) (call : Call) (s : State) (x : X86) (h 
 
     out-to : (n : ℕ) → call.fuel < arrivals code n s → slice_index l.end.regs RDX ≡ 1
     out-to n more =
-        let e = begins p true code call s x h.is_code h.places.places h.state h.lent h.begins in
-        let v = (spends p code call n s e.end h.is_code h.places h.state h.lent e.agrees more).2 in
-        let left : x86_run (native_text p true code) (e.count + v.count) x ≡ (outcomes.Left, v.end) = e.reaches.runs v.count ∙ v.left in
-        let same : v.end ≡ l.end = one-end l.count (e.count + v.count) (native_text p true code) x l.end v.end l.left left in
+        let e = begins p lean true code call s x h.is_code h.lives h.places.places h.state h.lent h.begins in
+        let v = (spends p lean code call n s e.end h.is_code h.lives h.places h.state h.lent e.agrees more).2 in
+        let left : x86_run (native_text p lean true code) (e.count + v.count) x ≡ (outcomes.Left, v.end) = e.reaches.runs v.count ∙ v.left in
+        let same : v.end ≡ l.end = one-end l.count (e.count + v.count) (native_text p lean true code) x l.end v.end l.left left in
         ap (λ (y : X86). slice_index y.regs RDX) (sym same) ∙ v.returns.why_is
 
 pub ends-in-time : EndingCalls
-ends-in-time = λ p code call s x h.
-    let e = begins p true code call s x h.is_code h.places.places h.state h.lent h.begins in
-    let w : ℕ = all p true code in
+ends-in-time = λ p lean code call s x h.
+    let e = begins p lean true code call s x h.is_code h.lives h.places.places h.state h.lent h.begins in
+    let w : ℕ = all p lean true code in
     let a : ℕ = call.fuel + 1 in
-    let first : ℕ = before p true code 0 in
-    let at_start : before p true code s.index ≡ first = ap (before p true code) h.begins.start in
+    let first : ℕ = before p lean true code 0 in
+    let at_start : before p lean true code s.index ≡ first = ap (before p lean true code) h.begins.start in
     let entry = e.few in
-    let low = before-later p true code (length code) 0 (omega arith) in
-    let sum = all-is p true code in
+    let low = before-later p lean true code (length code) 0 (omega arith) in
+    let sum = all-is p lean true code in
     let most = not-unit (is_loop_head code s.index) in
     let m : ℕ = a * w + w - first in
     let l =
-    leave-all p code h.is_code h.places a (length code) call s e.end m h.state h.lent e.agrees h.allowed (omega (arith, most)) (omega arith)
+    leave-all p lean code h.is_code h.lives h.places a (length code) call s e.end m h.state h.lent e.agrees h.allowed (omega (arith, most)) (omega arith)
     (omega (arith, at_start, low, sum)) in
     let two : call.fuel + 2 ≡ suc a = omega arith in
     let split : (call.fuel + 2) * w ≡ a * w + w = ap (λ k. k * w) two ∙ suc-times a w in
     let leaves =
-    leave-later (native_text p true code) x e.end m ((call.fuel + 2) * w) e.reaches (omega (arith, entry, low, sum, split)) l in
+    leave-later (native_text p lean true code) x e.end m ((call.fuel + 2) * w) e.reaches (omega (arith, entry, low, sum, split)) l in
     record {
       leaves = leaves;
       out = (
-        out-from p code call s x h ((call.fuel + 2) * w) leaves,
-        λ n. out-to p code call s x h ((call.fuel + 2) * w) leaves n.0 n.1,
+        out-from p lean code call s x h ((call.fuel + 2) * w) leaves,
+        λ n. out-to p lean code call s x h ((call.fuel + 2) * w) leaves n.0 n.1,
       );
     }
 
 -- ---- in time, if the Alpha run returns
 
-module _ (p : Places) (code : List Insn) (ok : IsCode code) (of : ArePlacesOf p code) where
+module _ (p : Places) (lean : Lean) (code : List Insn) (ok : IsCode code) (lives : IsLean lean code) (of : ArePlacesOf p lean code) where
   abbrev plain_text : List ℕ
-  plain_text = native_text p false code
+  plain_text = native_text p lean false code
 
   -- where a run of n steps returns, the call ends
   abbrev AllReturn : ℕ → Type 0
   AllReturn n =
-      (call : Call) (s t : State) (x : X86) (word : ℕ) → IsState s → IsLent call s.rights → AgreesAt p false code call s x →
+      (call : Call) (s t : State) (x : X86) (word : ℕ) → IsState s → IsLent call s.rights → AgreesAt p lean false code call s x →
       run_of code n s ≡ (ends.Returned word, t) →
       LeavesWithin plain_text (10 * n + 26) x
 
   module _ (n : ℕ) (rest : AllReturn n) (call : Call) (s t : State) (x : X86) (word : ℕ) (state : IsState s) (lent : IsLent call s.rights)
-      (agrees : AgreesAt p false code call s x) (run : run_of code (suc n) s ≡ (ends.Returned word, t))
+      (agrees : AgreesAt p lean false code call s x) (run : run_of code (suc n) s ≡ (ends.Returned word, t))
     where
       return-by : (insn : Insn) → slice_get code s.index ≡ Some insn → (q : Step × State) → insn_outcome insn s ≡ q →
           LeavesWithin plain_text (10 * suc n + 26) x
       return-by insn here (moves.Moved, u) e =
-          let r = steps-on p false code ok of call s x state lent agrees insn here u (omega arith) e in
+          let r = steps-on p lean false code ok lives of call s x state lent agrees insn here u (omega arith) e in
           let brief = r.brief in
           leave-later plain_text x r.end (10 * n + 26) (10 * suc n + 26) r.reaches (omega (arith, brief))
-          (rest (spend call 0) u t r.end word (state-after p false code ok of call s x state lent agrees insn here u e)
-          (lent-after p false code ok of call s x state lent agrees insn here (call.fuel - 0) u e) r.agrees_then
+          (rest (spend call 0) u t r.end word (state-after p lean false code ok lives of call s x state lent agrees insn here u e)
+          (lent-after p lean false code ok lives of call s x state lent agrees insn here (call.fuel - 0) u e) r.agrees_then
           (sym (stepped code s insn here (moves.Moved, u) e n) ∙ run))
       return-by insn here (moves.Returned, u) e =
-          let r = ends-so p false code ok of call s x state lent agrees insn here u (omega arith) e in
+          let r = ends-so p lean false code ok lives of call s x state lent agrees insn here u (omega arith) e in
           let brief = r.brief in
-          leaves-less p false code ok of call (slice_index u.regs 0) 0 r.most (10 * suc n + 26) u x (omega (arith, brief)) r.leaves
+          leaves-less p lean false code ok lives of call (slice_index u.regs 0) 0 r.most (10 * suc n + 26) u x (omega (arith, brief)) r.leaves
       return-by insn here (moves.Blocked index kind addr, u) e =
           let wrong : ends.Blocked index kind addr ≡ ends.Returned word =
           ap (λ (q : Outcome × State). q.0) (sym (stepped code s insn here (moves.Blocked index kind addr, u) e n) ∙ run) in absurd cc
@@ -573,9 +593,9 @@ module _ (p : Places) (code : List Insn) (ok : IsCode code) (of : ArePlacesOf p 
       return-at n (return-all n) call s t x word state lent agrees run (slice_get code s.index) refl
 
 pub returns-in-time : ReturningCalls
-returns-in-time = λ p code call s t x n word h run.
-    let e = begins p false code call s x h.is_code h.places.places h.state h.lent h.begins in
-    let l = return-all p code h.is_code h.places n call s t e.end word h.state h.lent e.agrees run in
-    let entry = entry-count p h.places.places in
+returns-in-time = λ p lean code call s t x n word h run.
+    let e = begins p lean false code call s x h.is_code h.lives h.places.places h.state h.lent h.begins in
+    let l = return-all p lean code h.is_code h.lives h.places n call s t e.end word h.state h.lent e.agrees run in
+    let entry = entry-count p h.places.places lean in
     let brief = e.brief in
-    leave-later (native_text p false code) x e.end (10 * n + 26) (10 * n + 100) e.reaches (omega (arith, entry, brief)) l
+    leave-later (native_text p lean false code) x e.end (10 * n + 26) (10 * n + 100) e.reaches (omega (arith, entry, brief)) l

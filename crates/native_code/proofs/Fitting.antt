@@ -32,14 +32,17 @@ use Rattle.native_steps.specs.declared.places.Place.{Place}
 use Rattle.native_steps.specs.declared.places.Place.TheVariants.{Register, Slot, Nowhere}
 use Rattle.native_steps.specs.Places.{Places, ArePlaces, is_in, place_at, operand_place, is_callee_saved, RAX, RCX, FUEL}
 use Rattle.native_steps.specs.Sequences.{keep_place, fetch, keep, source, brought, ready, target, settle, work_reg, load_code, load_around_code}
-use Rattle.native_steps.specs.Sequences.{action_code, insn_code}
+use Rattle.native_steps.specs.Sequences.{action_code}
 use Rattle.native_steps.specs.Sequences.{alu_code, move_code, cmp_code, compare_code, shift_code, bic_code, scaled_code, extract_code, op_code, sum_code}
 use Rattle.native_steps.specs.Straight.{total_length}
 use Rattle.native_code.specs.declared.insn.NativeInsn.{NativeInsn}
 use Rattle.native_code.specs.declared.insn.NativeInsn.TheVariants.{Plain, Go, GoIf}
+use Rattle.native_code.specs.declared.insn.Form.{Form}
+use Rattle.native_code.specs.declared.insn.Form.TheVariants.{Whole, Dead, Compare, Joined, Gone}
 use Rattle.native_code.specs.Heads.{is_loop_head}
+use Rattle.native_code.specs.Lives.{Lean, form_at}
 use Rattle.native_code.specs.Blocks.{for_registers, save_place, restore_place, enter, clear, entry_code, exit_code, is_argument, plain, branch_code, end_code}
-use Rattle.native_code.specs.Blocks.{return_code, spent_code, fuel_code, block_at, RDX}
+use Rattle.native_code.specs.Blocks.{return_code, spent_code, compare_flags, form_code, joined_code, form_end, fuel_code, block_at, RDX}
 use Rattle.native_code.specs.Layout.{code_length, padding, distance, front_code, offset_of, AlignedHeads}
 use Rattle.native_code.proofs.Texts.{length-append-code, plain-length, offset-next, block, pad, end_of}
 
@@ -144,29 +147,30 @@ module _ (p : Places) (places : ArePlaces p) where
   keep-count : (r : ℕ) → length (keep p r) ≤ 1
   keep-count r = either-count (eqb r 31) [] (keep_place (place_at p r) r RAX) 1 (omega arith) (keep_place-count (place_at p r) r RAX)
 
-  enter-count : (r from : ℕ) → length (enter p r from) ≤ 2
-  enter-count r from =
-      both-count (save_place (place_at p r) r) (keep_place (place_at p r) r from) 1 1
-      (save_place-count (place_at p r) r) (keep_place-count (place_at p r) r from)
+  module _ (lean : Lean) where
+    enter-count : (r from : ℕ) → length (enter p lean r from) ≤ 2
+    enter-count r from =
+        both-count (save_place (place_at p r) r) _ 1 1 (save_place-count (place_at p r) r)
+        (either-count (lean.live 0 r) (keep_place (place_at p r) r from) [] 1 (keep_place-count (place_at p r) r from) (omega arith))
 
-  clear-count : (r : ℕ) → length (clear p r) ≤ 2
-  clear-count r = either-count (is_argument r) [] (enter p r RAX) 2 (omega arith) (enter-count r RAX)
+    clear-count : (r : ℕ) → length (clear p lean r) ≤ 2
+    clear-count r = either-count (is_argument r) [] (enter p lean r RAX) 2 (omega arith) (enter-count r RAX)
 
-  pub entry-count : length (entry_code p) ≤ 72
-  entry-count =
-      let n = places.count in
-      let clears = registers-count (clear p) 2 (length p) clear-count in
-      let zeros : List X86Insn = MovZero RAX 0 ∷ for_registers (clear p) (length p) in
-      let last : length zeros ≤ 63 = omega (arith, clears, n) in
-      let second : length (enter p 17 RCX ++ zeros) ≤ 65 = both-count (enter p 17 RCX) zeros 2 63 (enter-count 17 RCX) last in
-      let first : length (enter p 16 RAX ++ (enter p 17 RCX ++ zeros)) ≤ 67 =
-      both-count (enter p 16 RAX) (enter p 17 RCX ++ zeros) 2 65 (enter-count 16 RAX) second in
-      let all : length (enter p 18 RDX ++ (enter p 16 RAX ++ (enter p 17 RCX ++ zeros))) ≤ 69 =
-      both-count (enter p 18 RDX) (enter p 16 RAX ++ (enter p 17 RCX ++ zeros)) 2 67 (enter-count 18 RDX) first in
-      omega (arith, all)
+    pub entry-count : length (entry_code p lean) ≤ 72
+    entry-count =
+        let n = places.count in
+        let clears = registers-count (clear p lean) 2 (length p) clear-count in
+        let zeros : List X86Insn = MovZero RAX 0 ∷ for_registers (clear p lean) (length p) in
+        let last : length zeros ≤ 63 = omega (arith, clears, n) in
+        let second : length (enter p lean 17 RCX ++ zeros) ≤ 65 = both-count (enter p lean 17 RCX) zeros 2 63 (enter-count 17 RCX) last in
+        let first : length (enter p lean 16 RAX ++ (enter p lean 17 RCX ++ zeros)) ≤ 67 =
+        both-count (enter p lean 16 RAX) (enter p lean 17 RCX ++ zeros) 2 65 (enter-count 16 RAX) second in
+        let all : length (enter p lean 18 RDX ++ (enter p lean 16 RAX ++ (enter p lean 17 RCX ++ zeros))) ≤ 69 =
+        both-count (enter p lean 18 RDX) (enter p lean 16 RAX ++ (enter p lean 17 RCX ++ zeros)) 2 67 (enter-count 18 RDX) first in
+        omega (arith, all)
 
-  entry-short : code_length (plain (entry_code p)) ≤ 800
-  entry-short = let n = entry-count in plain-short (entry_code p) 80 (omega (arith, n))
+    entry-short : code_length (plain (entry_code p lean)) ≤ 800
+    entry-short = let n = entry-count in plain-short (entry_code p lean) 80 (omega (arith, n))
 
   pub exit-count : (why : ℕ) → length (exit_code p why) ≤ 33
   exit-count why =
@@ -252,7 +256,7 @@ module _ (p : Places) (places : ArePlaces p) where
         either-count (eqb left 31) (MovImm work disp ∷ []) (ready p left RAX ++ Lea work (source p left RAX) disp ∷ []) 2 (omega arith)
         (both-count (ready p left RAX) _ 1 1 (ready-count left RAX) (omega arith))
 
-  pub action-count : (e : Action) → length (action_code p e) ≤ 6
+  action-count : (e : Action) → length (action_code p e) ≤ 6
   action-count (actions.Compute to (Sum base disp)) =
       let k =
       both-count (sum_code p (target p to) base disp) (settle p to (target p to)) 2 1 (sum-count (target p to) base disp) (settle-count to (target p to)) in
@@ -277,7 +281,7 @@ module _ (p : Places) (places : ArePlaces p) where
   action-count (actions.Branching (When c r)) = both-count (ready p r RAX) _ 1 5 (ready-count r RAX) (omega arith)
   action-count actions.Return = omega arith
 
-  pub end-count : (e : Action) (jump : Option ℕ) → length (end_code p e jump) ≤ 34
+  end-count : (e : Action) (jump : Option ℕ) → length (end_code p e jump) ≤ 34
   end-count (actions.Branching test) None = omega arith
   end-count (actions.Branching Always) (Some k) = omega arith
   end-count (actions.Branching (When c r)) (Some k) = omega arith
@@ -303,40 +307,83 @@ module _ (p : Places) (places : ArePlaces p) where
   end-short (actions.LoadAround to base disp) jump = omega arith
   end-short (actions.Store from base disp) jump = omega arith
 
-  module _ (metered : Bool) (code : List Insn) where
+  -- ---- by forms
+
+  compare-flags-count : (e : Action) → length (compare_flags p e) ≤ 3
+  compare-flags-count (actions.Compute to (Sum base disp)) = omega arith
+  compare-flags-count (actions.Compute to (Applied op left right)) =
+      both-count (ready p left RAX) (cmp_code p left right) 1 2 (ready-count left RAX) (cmp-count 0 left right)
+  compare-flags-count (actions.Load to base disp) = omega arith
+  compare-flags-count (actions.LoadAround to base disp) = omega arith
+  compare-flags-count (actions.Store from base disp) = omega arith
+  compare-flags-count (actions.Branching test) = omega arith
+  compare-flags-count actions.Return = omega arith
+
+  pub form-count : (form : Form) (e : Action) → length (form_code p form e) ≤ 6
+  form-count Whole e = action-count e
+  form-count Compare e = let h = compare-flags-count e in omega (arith, h)
+  form-count Dead e = omega arith
+  form-count (Joined c) e = omega arith
+  form-count Gone e = omega arith
+
+  joined-count : (c : X86Cond) (jump : Option ℕ) → length (joined_code c jump) ≤ 34
+  joined-count c None = omega arith
+  joined-count c (Some k) = omega arith
+
+  pub form-end-count : (form : Form) (e : Action) (jump : Option ℕ) → length (form_end p form e jump) ≤ 34
+  form-end-count Whole e jump = end-count e jump
+  form-end-count Compare e jump = omega arith
+  form-end-count Dead e jump = omega arith
+  form-end-count (Joined c) e jump = joined-count c jump
+  form-end-count Gone e jump = omega arith
+
+  joined-short : (c : X86Cond) (jump : Option ℕ) → code_length (joined_code c jump) ≤ 340
+  joined-short c None = omega arith
+  joined-short c (Some k) = omega arith
+
+  form-end-short : (form : Form) (e : Action) (jump : Option ℕ) → code_length (form_end p form e jump) ≤ 340
+  form-end-short Whole e jump = end-short e jump
+  form-end-short Compare e jump = omega arith
+  form-end-short Dead e jump = omega arith
+  form-end-short (Joined c) e jump = joined-short c jump
+  form-end-short Gone e jump = omega arith
+
+  module _ (lean : Lean) (metered : Bool) (code : List Insn) where
     fuel-short : (b : Bool) (l : List NativeInsn) → code_length l ≤ 13 → code_length (cond b l []) ≤ 13
     fuel-short true l h = h
     fuel-short false l h = omega arith
 
-    block-short : (k : ℕ) (o : Option Insn) → code_length (block_at p metered code k o) ≤ 413
+    block-short : (k : ℕ) (o : Option Insn) → code_length (block_at p lean metered code k o) ≤ 413
     block-short k None = let h = exit-count 1 in let s = plain-short (spent_code p) 34 (omega (arith, h)) in omega (arith, s)
     block-short k (Some insn) =
-        let f : code_length (fuel_code p metered code k) ≤ 13 =
+        let f : code_length (fuel_code p lean metered code k) ≤ 13 =
         fuel-short (metered && is_loop_head code k) (Plain (AluImm alu.Sub FUEL (pos 1)) ∷ GoIf Below (length code) ∷ []) (omega arith) in
-        let c = plain-short (insn_code p insn) 6 (action-count (action_of insn)) in
-        let e = end-short (action_of insn) (jump_of k insn) in
-        let two = length-append-code (plain (insn_code p insn)) (end_code p (action_of insn) (jump_of k insn)) in
-        let one = length-append-code (fuel_code p metered code k) (plain (insn_code p insn) ++ end_code p (action_of insn) (jump_of k insn)) in
+        let insns : List X86Insn = form_code p (form_at lean k) (action_of insn) in
+        let ending : List NativeInsn = form_end p (form_at lean k) (action_of insn) (jump_of k insn) in
+        let c = plain-short insns 6 (form-count (form_at lean k) (action_of insn)) in
+        let e = form-end-short (form_at lean k) (action_of insn) (jump_of k insn) in
+        let two = length-append-code (plain insns) ending in
+        let one = length-append-code (fuel_code p lean metered code k) (plain insns ++ ending) in
         omega (arith, f, c, e, two, one)
 
-    pad-short : (k at : ℕ) → code_length (pad p metered code k at) ≤ 36
+    pad-short : (k at : ℕ) → code_length (pad p lean metered code k at) ≤ 36
     pad-short k at = pad-short-by k at (is_loop_head code k)
 
-    front-short : (k : ℕ) → offset_of p metered code k ≤ 836 + 449 * k
+    front-short : (k : ℕ) → offset_of p lean metered code k ≤ 836 + 449 * k
     front-short zero =
-        let entry : List NativeInsn = plain (entry_code p) in
-        let h = entry-short in
+        let entry : List NativeInsn = plain (entry_code p lean) in
+        let h = entry-short lean in
         let g = pad-short 0 (code_length entry) in
-        let e = length-append-code entry (pad p metered code 0 (code_length entry)) in
+        let e = length-append-code entry (pad p lean metered code 0 (code_length entry)) in
         omega (arith, h, g, e)
     front-short (suc k) =
         let h = front-short k in
         let b = block-short k (slice_get code k) in
-        let e = offset-next p metered code k in
-        let g = pad-short (suc k) (end_of p metered code k) in
+        let e = offset-next p lean metered code k in
+        let g = pad-short (suc k) (end_of p lean metered code k) in
         omega (arith, h, b, e, g)
 
-    pub offset-small : (k : ℕ) → IsCode code → k ≤ suc (length code) → offset_of p metered code k < 2 ^ 30
+    pub offset-small : (k : ℕ) → IsCode code → k ≤ suc (length code) → offset_of p lean metered code k < 2 ^ 30
     offset-small k ok h =
         let s = front-short k in
         let n : length code ≤ 1024 = ok.short in
@@ -349,19 +396,19 @@ aligned-by : (k at : ℕ) (b : Bool) → (at % 32 == 0) ≡ b →
 aligned-by k at true e = let h = eqb-true (at % 32) 0 e in omega (arith, h)
 aligned-by k at false e = let n = nops-length ((32 - (at + 5) % 32) % 32) in omega (arith, n)
 
-module _ (p : Places) (metered : Bool) (code : List Insn) where
+module _ (p : Places) (lean : Lean) (metered : Bool) (code : List Insn) where
   -- so begins what has a front and a loop head's padding
-  front-aligned : (k : ℕ) (front : List NativeInsn) → is_loop_head code k ≡ true → code_length (front ++ pad p metered code k (code_length front)) % 32 ≡ 0
+  front-aligned : (k : ℕ) (front : List NativeInsn) → is_loop_head code k ≡ true → code_length (front ++ pad p lean metered code k (code_length front)) % 32 ≡ 0
   front-aligned k front h =
       let at : ℕ = code_length front in
-      let whole = length-append-code front (pad p metered code k at) in
-      let is : code_length (pad p metered code k at) ≡ code_length (padding k at) = ap (λ b. code_length (cond b (padding k at) [])) h in
+      let whole = length-append-code front (pad p lean metered code k at) in
+      let is : code_length (pad p lean metered code k at) ≡ code_length (padding k at) = ap (λ b. code_length (cond b (padding k at) [])) h in
       let a = aligned-by k at (at % 32 == 0) refl in
       omega (arith, whole, is, a)
 
-  aligned : (k : ℕ) → is_loop_head code k ≡ true → offset_of p metered code k % 32 ≡ 0
-  aligned zero h = front-aligned zero (plain (entry_code p)) h
-  aligned (suc k) h = front-aligned (suc k) (front_code p metered code k ++ block p metered code k) h
+  aligned : (k : ℕ) → is_loop_head code k ≡ true → offset_of p lean metered code k % 32 ≡ 0
+  aligned zero h = front-aligned zero (plain (entry_code p lean)) h
+  aligned (suc k) h = front-aligned (suc k) (front_code p lean metered code k ++ block p lean metered code k) h
 
 pub heads-aligned : AlignedHeads
-heads-aligned = λ p metered code k h. aligned p metered code k h
+heads-aligned = λ p lean metered code k h. aligned p lean metered code k h

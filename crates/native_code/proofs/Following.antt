@@ -1,8 +1,9 @@
 -- Native code follows every Alpha run for which the fuel is enough, and ends where it isn't.
-use Rattle.std.proofs.Common.{◌≡◌, ℕ, zero, suc, ◌+◌, ◌-◌, ◌<◌, ◌≤◌, Bool, true, false, cond, ◌&&◌, List, [], ◌∷◌, length, slice_get, slice_index}
+use Rattle.std.proofs.Common.{◌≡◌, ◌⊎◌, ℕ, zero, suc, ◌+◌, ◌-◌, ◌<◌, ◌≤◌, Bool, true, false, cond, ◌&&◌, List, [], ◌∷◌, length, slice_get, slice_index}
 use Rattle.std.proofs.Common.{Option, Some, None, refl, sym, ap, ◌∙◌, subst, arith, inl, inr}
 use Rattle.std.proofs.lemmas.Bool.{cases_eq, cases_Bool}
 use Rattle.std.proofs.lemmas.Option.{slice_get_within, slice_get_past}
+use Rattle.word_ops.specs.Memory.{read}
 use Rattle.word_ops.specs.Rights.{Rights}
 use Rattle.alpha_words.specs.declared.insn.Insn.{Insn}
 use Rattle.alpha_cfg.specs.declared.outcome.Step.{Step}
@@ -13,27 +14,29 @@ use Rattle.alpha_cfg.specs.Actions.{action_of}
 use Rattle.alpha_cfg.specs.Flow.{IsCode, jump_of}
 use Rattle.alpha_cfg.specs.Machine.{State, IsState, insn_outcome, step_at, ends_with, run_of}
 use Rattle.alpha_cfg.proofs.States.{IsAt, insn_outcome-keeps, insn_outcome-rights}
+use Rattle.x86_words.specs.declared.insn.X86Insn.{X86Insn}
 use Rattle.x86_words.specs.declared.insn.X86Insn.TheVariants.{MovZero}
 use Rattle.x86_machine.specs.declared.outcome.X86Outcome.TheVariants as outcomes
 use Rattle.x86_machine.specs.Machine.{X86, x86_run}
 use Rattle.native_steps.specs.Places.{Places, RAX}
-use Rattle.native_steps.specs.Sequences.{insn_code}
 use Rattle.native_steps.specs.Straight.{total_length}
 use Rattle.native_steps.specs.Agreement.{Call, IsLent, Agrees}
 use Rattle.native_steps.proofs.Frames.{wrote, wrote-same, wrote-reads, agrees-same}
 use Rattle.native_steps.proofs.Encodable.{straight}
 use Rattle.native_code.specs.Heads.{is_loop_head, if_moved, arrivals, fuel_of}
 use Rattle.native_code.specs.declared.insn.NativeInsn.{NativeInsn}
-use Rattle.native_code.specs.Blocks.{fuel_code, end_code, block_at, exit_code, spent_code}
+use Rattle.native_code.specs.Lives.{Lean, form_at, IsLean}
+use Rattle.native_code.specs.Blocks.{form_code, form_end, fuel_code, block_at, exit_code, spent_code}
 use Rattle.native_code.specs.Layout.{code_length, placed_from, offset_of, native_text}
-use Rattle.native_code.specs.Calls.{ArePlacesOf, spend, IsCallEnd, AgreesAt, Comes, Leaves, Follows, SimulatesRuns, Spends}
+use Rattle.native_code.specs.Calls.{ArePlacesOf, spend, IsCallEnd, IsPrepared, AgreesAt, Comes, Leaves, Follows, SimulatesRuns, Spends}
 use Rattle.native_code.proofs.Texts.{Lies, lies-as, lies-back, placed-plain, block-lies, block, gap}
 use Rattle.native_code.proofs.Reaching.{Reaches, reach-none, reach-both, reach-one, reached}
 use Rattle.native_code.proofs.Leaving.{leaves}
 use Rattle.native_code.proofs.Heading.{head-inside}
 use Rattle.native_code.proofs.Stepping.{agrees-fuel, Charged, charged, Spent, spent, Moves, moves-on}
 use Rattle.native_code.proofs.Stepping.{returns-so, middle, taking, taking-most, IsNext, block-count, charging-lies, near}
-use Rattle.native_code.proofs.Fitting.{end-count}
+use Rattle.native_code.proofs.Fitting.{form-end-count}
+use Rattle.native_code.proofs.Forms.{ready-as, joined-no-head}
 
 -- ---- units
 
@@ -53,6 +56,11 @@ pub unit-most : (b : Bool) → cond b 1 0 ≤ 1
 unit-most true = omega arith
 unit-most false = omega arith
 
+-- no unit where there is no loop head
+both-false : (m h : Bool) → h ≡ false → (m && h) ≡ false
+both-false true h e = e
+both-false false h e = refl
+
 -- an index of the code has an instruction
 missing-insn : (code : List Insn) (i : ℕ) → i < length code → slice_get code i ≡ None → ⊥
 missing-insn [] i low e = omega (arith, low)
@@ -67,21 +75,21 @@ lent-spent call f rights h = record { span = h.span; unread = h.unread; unwritte
 pub return-spent : (call : Call) (f word why : ℕ) (s : State) (y : X86) → IsCallEnd (record call { fuel = f }) word why s y → IsCallEnd call word why s y
 return-spent call f word why s y h = record { word_is = h.word_is; why_is = h.why_is; kept = h.kept; memory = h.memory }
 
-module _ (p : Places) (metered : Bool) (code : List Insn) (ok : IsCode code) (of : ArePlacesOf p code) where
+module _ (p : Places) (lean : Lean) (metered : Bool) (code : List Insn) (ok : IsCode code) (lives : IsLean lean code) (of : ArePlacesOf p lean code) where
   abbrev text : List ℕ
-  text = native_text p metered code
+  text = native_text p lean metered code
 
   abbrev offset : ℕ → ℕ
-  offset = offset_of p metered code
+  offset = offset_of p lean metered code
 
   -- ---- steps before
 
-  come-by : {k : ℕ} (call : Call) (t : State) (x y : X86) → Reaches text k x y → AgreesAt p metered code call t y → Comes p metered code call t x
+  come-by : {k : ℕ} (call : Call) (t : State) (x y : X86) → Reaches text k x y → AgreesAt p lean metered code call t y → Comes p lean metered code call t x
   come-by {k = k} call t x y r a = record { count = k; end = y; runs = reached text x y r; agrees = a }
 
   leave-by : {k : ℕ} (call : Call) (f word why : ℕ) (t : State) (x y : X86) → Reaches text k x y →
-      Leaves p metered code (record call { fuel = f }) word why t y →
-      Leaves p metered code call word why t x
+      Leaves p lean metered code (record call { fuel = f }) word why t y →
+      Leaves p lean metered code call word why t x
   leave-by {k = k} call f word why t x y r l = record {
     count = k + l.count;
     end = l.end;
@@ -90,20 +98,20 @@ module _ (p : Places) (metered : Bool) (code : List Insn) (ok : IsCode code) (of
   }
 
   come-on : {n : ℕ} (call : Call) (k f total : ℕ) (t : State) (x y : X86) → total ≡ k + f → Reaches text n x y →
-      Comes p metered code (spend (spend call k) f) t y →
-      Comes p metered code (spend call total) t x
+      Comes p lean metered code (spend (spend call k) f) t y →
+      Comes p lean metered code (spend call total) t x
   come-on {n = n} call k f total t x y sum r c =
       let less : call.fuel - k - f ≡ call.fuel - total = omega (arith, sum) in
       record {
         count = n + c.count;
         end = c.end;
         runs = r.runs c.count ∙ c.runs;
-        agrees = subst (λ n. AgreesAt p metered code (record call { fuel = n }) t c.end) less c.agrees;
+        agrees = subst (λ n. AgreesAt p lean metered code (record call { fuel = n }) t c.end) less c.agrees;
       }
 
   onward : {n : ℕ} (call : Call) (k f total : ℕ) (r : Outcome × State) (x y : X86) → total ≡ k + f → Reaches text n x y →
-      Follows p metered code (spend call k) f r y →
-      Follows p metered code call total r x
+      Follows p lean metered code (spend call k) f r y →
+      Follows p lean metered code call total r x
   onward call k f total (ends.OutOfSteps, t) x y sum r h = come-on call k f total t x y sum r h
   onward call k f total (ends.Returned word, t) x y sum r h = leave-by call (call.fuel - k) word 0 t x y r h
   onward call k f total (ends.Blocked index kind addr, t) x y sum r h = tt
@@ -116,8 +124,24 @@ module _ (p : Places) (metered : Bool) (code : List Insn) (ok : IsCode code) (of
     pub left : x86_run text count x ≡ (outcomes.Left, end)
     pub returns : IsCallEnd call word why t end
 
-  as-leaves : (call : Call) (word why : ℕ) (t : State) (x : X86) (most : ℕ) → LeavesIn call word why t x most → Leaves p metered code call word why t x
+  as-leaves : (call : Call) (word why : ℕ) (t : State) (x : X86) (most : ℕ) → LeavesIn call word why t x most → Leaves p lean metered code call word why t x
   as-leaves call word why t x most l = record { count = l.count; end = l.end; left = l.left; returns = l.returns }
+
+  -- an end is the same for a state with the same memory
+  leave-seen : (call : Call) (word why : ℕ) (s seen : State) (x : X86) (most : ℕ) → seen.memory ≡ s.memory → LeavesIn call word why seen x most →
+      LeavesIn call word why s x most
+  leave-seen call word why s seen x most same l = record {
+    count = l.count;
+    within = l.within;
+    end = l.end;
+    left = l.left;
+    returns = record {
+      word_is = l.returns.word_is;
+      why_is = l.returns.why_is;
+      kept = l.returns.kept;
+      memory = λ a free. l.returns.memory a free ∙ ap (λ m. read m a) same;
+    };
+  }
 
   leave-in : {k : ℕ} (call : Call) (f word why most all : ℕ) (t : State) (x y : X86) → Reaches text k x y → k + most ≤ all →
       LeavesIn (record call { fuel = f }) word why t y most →
@@ -136,11 +160,12 @@ module _ (p : Places) (metered : Bool) (code : List Insn) (ok : IsCode code) (of
   spent-leaves call f s x lent at_end agrees =
       let n : ℕ = length code in
       let none : slice_get code n ≡ None = slice_get_past code n (omega arith) in
-      let is : placed_from offset (offset n) (block p metered code n) ≡ spent_code p =
-      ap (λ o. placed_from offset (offset n) (block_at p metered code n o)) none ∙ placed-plain offset (offset n) (spent_code p) in
+      let is : placed_from offset (offset n) (block p lean metered code n) ≡ spent_code p =
+      ap (λ o. placed_from offset (offset n) (block_at p lean metered code n o)) none ∙ placed-plain offset (offset n) (spent_code p) in
       let lies : Lies text x.at (spent_code p) =
       subst (λ k. Lies text k (spent_code p)) (sym at_end)
-      (lies-as text (offset n) (placed_from offset (offset n) (block p metered code n)) (spent_code p) is (block-lies p metered code n (omega arith))) in
+      (lies-as text (offset n) (placed_from offset (offset n) (block p lean metered code n)) (spent_code p) is
+      (block-lies p lean metered code n (omega arith))) in
       let y : X86 = wrote x (x.at + 6) x.flags RAX 0 in
       let zero-is = straight (MovZero RAX 0) (omega arith, omega arith) refl refl in
       let to-y : Reaches text 1 x y = reach-one text x y (MovZero RAX 0) (exit_code p 1) zero-is.insn lies refl in
@@ -163,30 +188,43 @@ module _ (p : Places) (metered : Bool) (code : List Insn) (ok : IsCode code) (of
 
   -- ---- one step
 
-  module _ (call : Call) (s : State) (x : X86) (state : IsState s) (lent : IsLent call s.rights) (agrees : AgreesAt p metered code call s x) where
+  module _ (call : Call) (s : State) (x : X86) (state : IsState s) (lent : IsLent call s.rights) (agrees : AgreesAt p lean metered code call s x) where
     abbrev head : Bool
     head = is_loop_head code s.index
 
     abbrev pub takes : Bool
     takes = metered && head
 
+    abbrev seen : State
+    seen = agrees.seen
+
+    -- the state that is seen has the same rights
+    lent-seen : (f : ℕ) → IsLent (record call { fuel = f }) seen.rights
+    lent-seen f = lent-spent call f seen.rights (subst (IsLent call) (sym agrees.same.rights) lent)
+
     -- the block's first part is done
     module _ (insn : Insn) (here : slice_get code s.index ≡ Some insn) where
       -- the instructions of the block, and of the padding behind it
       abbrev pub size : ℕ
-      size = length (block p metered code s.index) + length (gap p metered code s.index)
+      size = length (block p lean metered code s.index) + length (gap p lean metered code s.index)
 
-      charged-here : cond takes 1 0 ≤ call.fuel → Charged p metered code ok of call s x takes
+      charged-here : cond takes 1 0 ≤ call.fuel → Charged p lean metered code ok lives of call seen x takes
       charged-here enough =
-          let first : List NativeInsn = fuel_code p metered code s.index in
+          let first : List NativeInsn = fuel_code p lean metered code s.index in
           let lies : Lies text x.at (placed_from offset x.at first) =
-          subst (λ n. Lies text n (placed_from offset n first)) (sym agrees.at) (charging-lies p metered code ok of s.index insn here) in
-          let n = near p metered code ok of s.index insn here in
+          subst (λ n. Lies text n (placed_from offset n first)) (sym agrees.at) (charging-lies p lean metered code ok lives of s.index insn here) in
+          let n = near p lean metered code ok lives of s.index insn here in
           let a = agrees.at in
-          charged p metered code ok of takes call s x agrees.agrees (omega (arith, n, a)) lies enough
+          charged p lean metered code ok lives of takes call seen x agrees.agrees (omega (arith, n, a)) lies enough
 
-      at-middle : (c : Charged p metered code ok of call s x takes) → c.end.at ≡ middle p metered code ok of s.index insn here
-      at-middle c = c.at ∙ ap (λ n. n + code_length (fuel_code p metered code s.index)) agrees.at
+      -- a joined branch takes none, so its flags stay
+      ready-charged : (c : Charged p lean metered code ok lives of call seen x takes) → IsPrepared (form_at lean s.index) code s c.end
+      ready-charged c =
+          ready-as (form_at lean s.index) code s x c.end
+          (λ jump e. c.flags (both-false metered head (joined-no-head lean code lives s.index insn jump here e))) agrees.ready
+
+      at-middle : (c : Charged p lean metered code ok lives of call seen x takes) → c.end.at ≡ middle p lean metered code ok lives of s.index insn here
+      at-middle c = c.at ∙ ap (λ n. n + code_length (fuel_code p lean metered code s.index)) agrees.at
 
       pub state-after : (u : State) → insn_outcome insn s ≡ (moves.Moved, u) → IsState u
       state-after u e =
@@ -199,43 +237,48 @@ module _ (p : Places) (metered : Bool) (code : List Insn) (ok : IsCode code) (of
           let same : s.rights ≡ u.rights = sym (insn_outcome-rights insn s) ∙ ap (λ (q : Step × State). q.1.rights) e in
           lent-spent call f u.rights (subst (IsLent call) same lent)
 
-      sizes : size ≡ length (taking p metered code ok of takes) + (length (insn_code p insn) + length (end_code p (action_of insn) (jump_of s.index insn)))
-          + length (gap p metered code s.index)
-      sizes = ap (λ n. n + length (gap p metered code s.index)) (block-count p metered code ok of s.index insn here)
+      -- the sequence, and what follows it
+      abbrev insns : List X86Insn
+      insns = form_code p (form_at lean s.index) (action_of insn)
+
+      abbrev ending : List NativeInsn
+      ending = form_end p (form_at lean s.index) (action_of insn) (jump_of s.index insn)
+
+      sizes : size ≡ length (taking p lean metered code ok lives of takes) + (length insns + length ending) + length (gap p lean metered code s.index)
+      sizes = ap (λ n. n + length (gap p lean metered code s.index)) (block-count p lean metered code ok lives of s.index insn here)
 
       pub wanted-size : takes ≡ true → 2 ≤ size
       wanted-size wanted =
-          let two : length (taking p metered code ok of takes) ≡ 2 = ap (λ b. length (taking p metered code ok of b)) wanted in
+          let two : length (taking p lean metered code ok lives of takes) ≡ 2 = ap (λ b. length (taking p lean metered code ok lives of b)) wanted in
           let all = sizes in
           omega (arith, two, all)
 
-      -- one or more steps lead to the next block
+      -- steps lead to the next block: there is one, or the index is further on
       pub record StepsOn (u : State) : Type 0 where
         pub count : ℕ
-        pub some : 1 ≤ count
+        pub on : (1 ≤ count) ⊎ (s.index < u.index)
         pub few : count ≤ size
         pub brief : count ≤ 10
         pub end : X86
         pub reaches : Reaches text count x end
-        pub next : IsNext p metered code ok of s.index insn here u.index
-        pub agrees_then : AgreesAt p metered code (spend call (cond takes 1 0)) u end
+        pub next : IsNext p lean metered code ok lives of s.index insn here u.index
+        pub agrees_then : AgreesAt p lean metered code (spend call (cond takes 1 0)) u end
 
       pub steps-on : (u : State) → cond takes 1 0 ≤ call.fuel → insn_outcome insn s ≡ (moves.Moved, u) → StepsOn u
       steps-on u enough e =
           let c = charged-here enough in
           let spent_call : Call = spend call (cond takes 1 0) in
-          let m : Moves p metered code ok of s.index insn here spent_call u c.end =
-          moves-on p metered code ok of s.index insn here spent_call s u c.end state (lent-spent call (call.fuel - cond takes 1 0) s.rights lent) refl
-          (at-middle c) c.agrees e in
-          let charge : ℕ = length (taking p metered code ok of takes) in
-          let two = taking-most p metered code ok of takes in
-          let some = m.some in
+          let m : Moves p lean metered code ok lives of s.index insn here spent_call u c.end =
+          moves-on p lean metered code ok lives of s.index insn here spent_call s seen c.end state agrees.same (lent-seen (call.fuel - cond takes 1 0)) refl
+          (at-middle c) c.agrees (ready-charged c) u e in
+          let charge : ℕ = length (taking p lean metered code ok lives of takes) in
+          let two = taking-most p lean metered code ok lives of takes in
           let few = m.few in
           let brief = m.brief in
           let all = sizes in
           record {
             count = charge + m.count;
-            some = omega (arith, some);
+            on = elim m.on [ inl some ↦ inl (omega (arith, some)) | inr far ↦ inr far ];
             few = omega (arith, few, all);
             brief = omega (arith, brief, two);
             end = m.end;
@@ -256,14 +299,14 @@ module _ (p : Places) (metered : Bool) (code : List Insn) (ok : IsCode code) (of
           let c = charged-here enough in
           let spent_call : Call = spend call (cond takes 1 0) in
           let r =
-          returns-so p metered code ok of s.index insn here spent_call s u c.end state (lent-spent call (call.fuel - cond takes 1 0) s.rights lent) refl
-          (at-middle c) c.agrees u e in
-          let last : ℕ = length (end_code p (action_of insn) (jump_of s.index insn)) in
+          returns-so p lean metered code ok lives of s.index insn here spent_call s seen c.end state agrees.same (lent-seen (call.fuel - cond takes 1 0)) refl
+          (at-middle c) c.agrees (ready-charged c) u e in
+          let last : ℕ = length ending in
           let l : LeavesIn spent_call (slice_index s.regs 0) 0 s c.end last =
           record { count = r.0.count; within = let a = r.0.all in omega (arith, a); end = r.0.end; left = r.0.left; returns = r.0.returns } in
-          let most : ℕ = length (taking p metered code ok of takes) + last in
-          let two = taking-most p metered code ok of takes in
-          let short = end-count p of.places (action_of insn) (jump_of s.index insn) in
+          let most : ℕ = length (taking p lean metered code ok lives of takes) + last in
+          let two = taking-most p lean metered code ok lives of takes in
+          let short = form-end-count p of.places (form_at lean s.index) (action_of insn) (jump_of s.index insn) in
           let all = sizes in
           record {
             most = most;
@@ -277,16 +320,17 @@ module _ (p : Places) (metered : Bool) (code : List Insn) (ok : IsCode code) (of
       -- the unit that is wanted here is missing
       pub missing : takes ≡ true → call.fuel ≡ 0 → LeavesIn call 0 1 s x (2 + length (spent_code p))
       missing wanted none =
-          let first : List NativeInsn = fuel_code p metered code s.index in
+          let first : List NativeInsn = fuel_code p lean metered code s.index in
           let lies : Lies text x.at (placed_from offset x.at first) =
-          subst (λ k. Lies text k (placed_from offset k first)) (sym agrees.at) (charging-lies p metered code ok of s.index insn here) in
-          let near_by = near p metered code ok of s.index insn here in
+          subst (λ k. Lies text k (placed_from offset k first)) (sym agrees.at) (charging-lies p lean metered code ok lives of s.index insn here) in
+          let near_by = near p lean metered code ok lives of s.index insn here in
           let start = agrees.at in
-          let sp : Spent p metered code ok of call s x =
-          spent p metered code ok of call s x agrees.agrees (omega (arith, near_by, start))
-          (subst (λ b. Lies text x.at (placed_from offset x.at (taking p metered code ok of b))) wanted lies) none in
+          let sp : Spent p lean metered code ok lives of call seen x =
+          spent p lean metered code ok lives of call seen x agrees.agrees (omega (arith, near_by, start))
+          (subst (λ b. Lies text x.at (placed_from offset x.at (taking p lean metered code ok lives of b))) wanted lies) none in
           leave-in call sp.fuel 0 1 (length (spent_code p)) (2 + length (spent_code p)) s x sp.end sp.reaches (omega arith)
-          (spent-leaves call sp.fuel s sp.end lent sp.at sp.agrees)
+          (leave-seen (record call { fuel = sp.fuel }) 0 1 s seen sp.end (length (spent_code p)) agrees.same.memory
+          (spent-leaves call sp.fuel seen sp.end (subst (IsLent call) (sym agrees.same.rights) lent) sp.at sp.agrees))
 
   -- ---- runs
 
@@ -297,21 +341,27 @@ module _ (p : Places) (metered : Bool) (code : List Insn) (ok : IsCode code) (of
   -- every run of at most n steps is followed
   abbrev FollowsAll : ℕ → Type 0
   FollowsAll n =
-      (call : Call) (s : State) (x : X86) → IsState s → IsLent call s.rights → AgreesAt p metered code call s x → fuel_of metered code n s ≤ call.fuel →
-      Follows p metered code call (fuel_of metered code n s) (run_of code n s) x
+      (call : Call) (s : State) (x : X86) → IsState s → IsLent call s.rights → AgreesAt p lean metered code call s x → fuel_of metered code n s ≤ call.fuel →
+      Follows p lean metered code call (fuel_of metered code n s) (run_of code n s) x
 
   follow-none : FollowsAll zero
   follow-none = λ call s x state lent a enough.
       let none = nothing metered in
       let same : call.fuel ≡ call.fuel - cond metered 0 0 = omega (arith, none) in
       come-by (spend call (cond metered 0 0)) s x x (reach-none text x)
-      (record { at = a.at; agrees = agrees-fuel p call (call.fuel - cond metered 0 0) s x a.agrees (a.agrees.fuel ∙ same) })
+      (record {
+        at = a.at;
+        seen = a.seen;
+        same = a.same;
+        agrees = agrees-fuel p call (call.fuel - cond metered 0 0) a.seen x a.agrees (a.agrees.fuel ∙ same);
+        ready = a.ready;
+      })
 
   module _ (n : ℕ) (rest : FollowsAll n) (call : Call) (s : State) (x : X86) (state : IsState s) (lent : IsLent call s.rights)
-      (a : AgreesAt p metered code call s x)
+      (a : AgreesAt p lean metered code call s x)
     where
       by-step : (insn : Insn) → slice_get code s.index ≡ Some insn → (q : Step × State) → insn_outcome insn s ≡ q → total n s q ≤ call.fuel →
-          Follows p metered code call (total n s q) (ends_with q.0 q.1 (run_of code n q.1)) x
+          Follows p lean metered code call (total n s q) (ends_with q.0 q.1 (run_of code n q.1)) x
       by-step insn here (moves.Moved, u) e most =
           let sum = sum-is metered (is_loop_head code s.index) (arrivals code n u) in
           let units : ℕ = cond (metered && is_loop_head code s.index) 1 0 in
@@ -329,7 +379,7 @@ module _ (p : Places) (metered : Bool) (code : List Insn) (ok : IsCode code) (of
       by-step insn here (moves.Blocked index kind addr, u) e most = tt
 
       by-insn : (o : Option Insn) → slice_get code s.index ≡ o → total n s (step_at o s) ≤ call.fuel →
-          Follows p metered code call (total n s (step_at o s)) (ends_with (step_at o s).0 (step_at o s).1 (run_of code n (step_at o s).1)) x
+          Follows p lean metered code call (total n s (step_at o s)) (ends_with (step_at o s).0 (step_at o s).1 (run_of code n (step_at o s).1)) x
       by-insn None here most = tt
       by-insn (Some insn) here most = by-step insn here (insn_outcome insn s) refl most
 
@@ -338,46 +388,46 @@ module _ (p : Places) (metered : Bool) (code : List Insn) (ok : IsCode code) (of
   follow (suc n) = λ call s x state lent a enough. by-insn n (follow n) call s x state lent a (slice_get code s.index) refl enough
 
 pub follows : SimulatesRuns
-follows = λ p metered code call n s x ok of state lent a enough. follow p metered code ok of n call s x state lent a enough
+follows = λ p lean metered code call n s x ok lives of state lent a enough. follow p lean metered code ok lives of n call s x state lent a enough
 
 -- ---- out of fuel
 
-module _ (p : Places) (code : List Insn) (ok : IsCode code) (of : ArePlacesOf p code) where
+module _ (p : Places) (lean : Lean) (code : List Insn) (ok : IsCode code) (lives : IsLean lean code) (of : ArePlacesOf p lean code) where
   -- it does within n steps
   abbrev SpendsAll : ℕ → Type 0
   SpendsAll n =
-      (call : Call) (s : State) (x : X86) → IsState s → IsLent call s.rights → AgreesAt p true code call s x → call.fuel < arrivals code n s →
-      (k : ℕ) × (k ≤ n) × Leaves p true code call 0 1 (run_of code k s).1 x
+      (call : Call) (s : State) (x : X86) → IsState s → IsLent call s.rights → AgreesAt p lean true code call s x → call.fuel < arrivals code n s →
+      (k : ℕ) × (k ≤ n) × Leaves p lean true code call 0 1 (run_of code k s).1 x
 
   module _ (n : ℕ) (rest : SpendsAll n) (call : Call) (s : State) (x : X86) (state : IsState s) (lent : IsLent call s.rights)
-      (a : AgreesAt p true code call s x)
+      (a : AgreesAt p lean true code call s x)
     where
       abbrev at_head : Bool
       at_head = is_loop_head code s.index
 
       abbrev Spending : Type 0
-      Spending = (k : ℕ) × (k ≤ suc n) × Leaves p true code call 0 1 (run_of code k s).1 x
+      Spending = (k : ℕ) × (k ≤ suc n) × Leaves p lean true code call 0 1 (run_of code k s).1 x
 
       -- the unit is there
       there : (insn : Insn) → slice_get code s.index ≡ Some insn → (q : Step × State) → insn_outcome insn s ≡ q → cond at_head 1 0 ≤ call.fuel →
           call.fuel < cond at_head 1 0 + if_moved q.0 (arrivals code n q.1) →
           Spending
       there insn here (moves.Moved, u) e enough more =
-          let m = steps-on p true code ok of call s x state lent a insn here u enough e in
+          let m = steps-on p lean true code ok lives of call s x state lent a insn here u enough e in
           let units : ℕ = cond at_head 1 0 in
           let more-is : call.fuel < cond at_head 1 0 + arrivals code n u = more in
           let less : call.fuel - units < arrivals code n u = omega (arith, enough, more-is) in
           let r =
-          rest (spend call units) u m.end (state-after p true code ok of call s x state lent a insn here u e)
-          (lent-after p true code ok of call s x state lent a insn here (call.fuel - units) u e) m.agrees_then less in
+          rest (spend call units) u m.end (state-after p lean true code ok lives of call s x state lent a insn here u e)
+          (lent-after p lean true code ok lives of call s x state lent a insn here (call.fuel - units) u e) m.agrees_then less in
           let same : run_of code (suc r.0) s ≡ run_of code r.0 u =
           ap (λ (o : Option Insn). let q = step_at o s in ends_with q.0 q.1 (run_of code r.0 q.1)) here
           ∙ ap (λ (q : Step × State). ends_with q.0 q.1 (run_of code r.0 q.1)) e in
           let k-low = r.1 in (
             suc r.0,
             omega (arith, k-low),
-            subst (λ (q : Outcome × State). Leaves p true code call 0 1 q.1 x) (sym same)
-                (leave-by p true code ok of call (call.fuel - units) 0 1 (run_of code r.0 u).1 x m.end m.reaches r.2),
+            subst (λ (q : Outcome × State). Leaves p lean true code call 0 1 q.1 x) (sym same)
+                (leave-by p lean true code ok lives of call (call.fuel - units) 0 1 (run_of code r.0 u).1 x m.end m.reaches r.2),
           )
       there insn here (moves.Returned, u) e enough more =
           let more-is : call.fuel < cond at_head 1 0 + 0 = more in absurd (omega (arith, enough, more-is))
@@ -393,8 +443,8 @@ module _ (p : Places) (code : List Insn) (ok : IsCode code) (of : ArePlacesOf p 
           elim (cases_eq call.fuel 0) [
             | inl none ↦ elim (cases_Bool at_head) [
               | inl is ↦
-                  let l = missing p true code ok of call s x state lent a insn here is none in
-                  (0, omega arith, as-leaves p true code ok of call 0 1 s x (2 + length (spent_code p)) l)
+                  let l = missing p lean true code ok lives of call s x state lent a insn here is none in
+                  (0, omega arith, as-leaves p lean true code ok lives of call 0 1 s x (2 + length (spent_code p)) l)
               | inr other ↦ let u = no-unit at_head other in there insn here (insn_outcome insn s) refl (omega (arith, u)) most
             ]
             | inr some ↦ there insn here (insn_outcome insn s) refl (let u = unit-most at_head in omega (arith, u, some)) most
@@ -421,4 +471,4 @@ module _ (p : Places) (code : List Insn) (ok : IsCode code) (of : ArePlacesOf p 
   spend-all (suc n) = λ call s x state lent a more. by-option n (spend-all n) call s x state lent a (slice_get code s.index) refl more
 
 pub spends : Spends
-spends = λ p code call n s x ok of state lent a more. spend-all p code ok of n call s x state lent a more
+spends = λ p lean code call n s x ok lives of state lent a more. spend-all p lean code ok lives of n call s x state lent a more

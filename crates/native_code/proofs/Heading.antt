@@ -40,7 +40,7 @@ found (insn ∷ rest) head from e = elim (or_cases (leads_to head (jump_of from 
       record { place = suc f.place; insn = f.insn; here = f.here; leads = subst (λ k. jump_of k f.insn ≡ Some head) same f.leads }
 ]
 
-reaches : (l : List Insn) (head from place : ℕ) (insn : Insn) → slice_get l place ≡ Some insn → jump_of (from + place) insn ≡ Some head →
+pub reaches : (l : List Insn) (head from place : ℕ) (insn : Insn) → slice_get l place ≡ Some insn → jump_of (from + place) insn ≡ Some head →
     jump_to head from l ≡ true
 reaches [] head from place insn here leads = absurd cc
 reaches (first ∷ rest) head from zero insn here leads =
@@ -60,7 +60,7 @@ dropped zero l k = let same : k ≡ 0 + k = omega arith in ap (slice_get l) same
 dropped (suc n) [] k = refl
 dropped (suc n) (x ∷ l) k = let same : suc (n + k) ≡ suc n + k = omega arith in dropped n l k ∙ ap (slice_get (x ∷ l)) same
 
-head-from : (code : List Insn) (head : ℕ) → is_loop_head code head ≡ true → IsLoopHead code head
+pub head-from : (code : List Insn) (head : ℕ) → is_loop_head code head ≡ true → IsLoopHead code head
 head-from code head e =
     let f = found (drop head code) head head e in
     record { from = head + f.place; back = omega arith; insn = f.insn; here = sym (dropped head code f.place) ∙ f.here; leads = f.leads }

@@ -1,6 +1,8 @@
 pub mod Texts
 pub mod Walking
 pub mod Heading
+pub mod Living
+pub mod Forms
 pub mod Reaching
 pub mod Leaving
 pub mod Entering

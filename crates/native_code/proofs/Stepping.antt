@@ -1,13 +1,14 @@
 -- One Alpha step: fuel, the block's sequence, and where it goes on.
-use Rattle.std.proofs.Common.{◌≡◌, ◌≢◌, ℕ, suc, ◌+◌, ◌-◌, ◌^◌, ◌<◌, ◌≤◌, ◌==◌, Bool, true, false, cond, List, [], ◌∷◌, ◌++◌, length, slice_get}
-use Rattle.std.proofs.Common.{◌⊎◌, length-append, FitsSigned, slice_index, Option, Some, ℤ, pos, negsuc, ◌+ℤ◌, refl, sym, ap, ◌∙◌, subst, arith, inl, inr}
+use Rattle.std.proofs.Common.{◌≡◌, ◌≢◌, ℕ, suc, ◌+◌, ◌-◌, ◌^◌, ◌<◌, ◌≤◌, Bool, true, false, cond, List, [], ◌∷◌, ◌++◌, length, slice_get, slice_set}
+use Rattle.std.proofs.Common.{◌⊎◌, length-append, FitsSigned, slice_index, Option, Some, None, ℤ, pos, negsuc, ◌+ℤ◌, refl, sym, ap, ◌∙◌, subst, arith, inl, inr}
 use Rattle.std.specs.Int.{w32}
 use Rattle.std.proofs.lemmas.Bool.{ne_eqb, eq-eqb}
-use Rattle.std.proofs.lemmas.Option.{slice_get_within}
+use Rattle.std.proofs.lemmas.List.{get_or-set_same}
+use Rattle.std.proofs.lemmas.Option.{same_Some, slice_get_within}
 use Rattle.word_ops.specs.declared.Op.TheVariants as ops
 use Rattle.word_ops.specs.Memory.{read, write}
 use Rattle.word_ops.specs.Rights.{allowed}
-use Rattle.word_ops.specs.Words.{test_of}
+use Rattle.word_ops.specs.Words.{word_of, test_of}
 use Rattle.word_ops.proofs.EachOp.{word_of-below}
 use Rattle.word_ops.specs.declared.Rel.TheVariants.{Eq}
 use Rattle.word_ops.specs.Registers.{read_reg, write_reg}
@@ -18,56 +19,60 @@ use Rattle.alpha_words.specs.declared.memory.MemoryOp.TheVariants.{Lda, Ldah, Ld
 use Rattle.alpha_words.specs.declared.insn.Format.{Format}
 use Rattle.alpha_words.specs.declared.insn.Format.TheVariants as F
 use Rattle.alpha_words.specs.Formats.{format_of}
+use Rattle.alpha_words.specs.Encoding.{IsRhs}
 use Rattle.alpha_words.specs.Lawful.{format_target, target_of}
 use Rattle.alpha_cfg.specs.declared.outcome.Kind.{Kind}
 use Rattle.alpha_cfg.specs.declared.outcome.Kind.TheVariants as kinds
 use Rattle.alpha_cfg.specs.declared.outcome.Step.{Step}
 use Rattle.alpha_cfg.specs.declared.outcome.Step.TheVariants as moves
-use Rattle.alpha_cfg.specs.Actions.{Sum, Applied, Test, Always, When, Action, action_of, format_action, memory_action}
+use Rattle.alpha_cfg.specs.Actions.{Computed, Applied, Test, Always, When, Action, action_of, format_action, memory_action, next_after, HasOperands}
 use Rattle.alpha_cfg.specs.Actions as actions
 use Rattle.alpha_cfg.specs.Flow.{IsCode, InsideOf, landing, jump_of}
-use Rattle.alpha_cfg.specs.Machine.{State, IsState, access_outcome, address_of, aligned, state_at, takes, action_outcome, insn_outcome}
+use Rattle.alpha_cfg.specs.Machine.{State, IsState, rhs_word, word_computed, passes as test_passes, access_outcome, address_of, aligned, state_at, takes}
+use Rattle.alpha_cfg.specs.Machine.{action_outcome}
+use Rattle.alpha_cfg.specs.Machine.{insn_outcome}
+use Rattle.alpha_cfg.proofs.States.{IsAt, insn_outcome-keeps, action_of-operands}
 use Rattle.x86_words.specs.declared.operators.AluOp.TheVariants as alu
-use Rattle.x86_words.specs.declared.operators.AluOp.{AluOp}
-use Rattle.x86_words.specs.declared.operators.ShiftOp.{ShiftOp}
-use Rattle.x86_words.specs.declared.operators.ShiftOp.TheVariants.{Shl, Shr, Sar}
-use Rattle.x86_words.specs.declared.operators.Scale.{Scale}
-use Rattle.x86_words.specs.declared.operators.Scale.TheVariants.{Four, Eight}
 use Rattle.x86_words.specs.declared.operators.X86Cond.{X86Cond}
-use Rattle.x86_words.specs.declared.operators.X86Cond.TheVariants.{Below, Equal, BelowOrEqual, Less, LessOrEqual}
+use Rattle.x86_words.specs.declared.operators.X86Cond.TheVariants.{Below}
 use Rattle.alpha_words.specs.declared.insn.Rhs.{Rhs}
 use Rattle.alpha_words.specs.declared.insn.Rhs.TheVariants.{Reg, Lit}
-use Rattle.word_ops.specs.declared.Op.{Op}
 use Rattle.x86_words.specs.declared.insn.X86Insn.{X86Insn}
-use Rattle.x86_words.specs.declared.insn.X86Insn.TheVariants.{AluImm, JumpIf, Jump, MovByte, MovTwo, MovFour}
+use Rattle.x86_words.specs.declared.insn.X86Insn.TheVariants.{Alu, AluImm, JumpIf, Jump}
 use Rattle.x86_words.specs.Encoding.{length_of, IsX86Insn}
 use Rattle.x86_machine.specs.declared.flags.Flags.{Flags}
-use Rattle.x86_machine.specs.Flags.{alu_word, alu_flags, AfterSubOne}
+use Rattle.x86_machine.specs.Flags.{alu_word, alu_flags, cond_holds, AfterSubOne}
 use Rattle.x86_machine.specs.declared.outcome.X86Outcome.TheVariants as outcomes
 use Rattle.x86_machine.specs.Machine.{X86, IsX86, x86_run}
 use Rattle.x86_machine.proofs.Orders.{after_sub_one}
 use Rattle.native_steps.specs.Places.{Places, ArePlaces, IsSomewhere, is_free, is_in, operand_place, is_callee_saved, AREA, FUEL, RAX, RCX}
-use Rattle.native_steps.specs.Sequences.{ReadsPlaced, test_code, action_code, insn_code, branch_cond, fetch, brought, ready, target, work_reg}
-use Rattle.native_steps.specs.Sequences.{load_code, load_around_code, alu_code, move_code, cmp_code, compare_code, shift_code, scaled_code, extract_code}
-use Rattle.native_steps.specs.Sequences.{op_code, sum_code}
+use Rattle.native_steps.specs.Sequences.{ReadsPlaced, test_code, action_code, insn_code, branch_cond, fetch, source, ready}
+use Rattle.native_steps.specs.Compares.{ready_cmp_code, DecidesJoined}
 use Rattle.native_steps.specs.Straight.{total_length, x86_straight}
 use Rattle.native_steps.specs.Agreement.{Call, IsLent, Agrees, EndsInAgreement, DecidesBranch}
-use Rattle.native_steps.proofs.Frames.{wrote, wrote-is, wrote-reads, wrote-other, flags-same, agrees-same, isnt}
-use Rattle.native_steps.proofs.Operands.{agrees-index, fetched, with_reg, with-agrees, with-reads}
+use Rattle.native_steps.proofs.Frames.{SameBut, wrote, wrote-is, wrote-reads, wrote-other, flags-same, same-trans, agrees-same, isnt}
+use Rattle.native_steps.proofs.Operands.{source-below, agrees-index, fetched, with_reg, with-agrees, with-reads}
 use Rattle.native_steps.proofs.Instructions.{simulates, tests}
-use Rattle.native_steps.proofs.Encodable.{fetch-straight, sequence-straight}
+use Rattle.native_steps.proofs.Joining.{joins}
+use Rattle.native_steps.proofs.Encodable.{Straight, no-insn, one-straight, both-straight, straight, fetch-straight, sequence-straight}
 use Rattle.native_code.specs.declared.insn.NativeInsn.{NativeInsn}
 use Rattle.native_code.specs.declared.insn.NativeInsn.TheVariants.{Plain, Go, GoIf}
-use Rattle.native_code.specs.Blocks.{plain, branch_code, end_code, fuel_code, block_at, exit_code, return_code}
+use Rattle.native_code.specs.declared.insn.Form.{Form}
+use Rattle.native_code.specs.declared.insn.Form.TheVariants.{Whole, Dead, Compare, Joined, Gone}
+use Rattle.native_code.specs.Lives.{Lean, form_at, ReadsLive, written, MayGoOn, IsDeadWrite, AreJoined, FitsForm, IsLeanAt, IsLean}
+use Rattle.native_code.specs.Blocks.{plain, branch_code, end_code, compare_flags, form_code, joined_code, form_end, fuel_code, block_at, exit_code}
+use Rattle.native_code.specs.Blocks.{return_code}
 use Rattle.native_code.specs.Layout.{code_length, distance, placed_from, offset_of, native_text}
-use Rattle.native_code.specs.Calls.{ArePlacesOf, spend, IsCallEnd, AgreesAt}
+use Rattle.native_code.specs.Calls.{reads_operands, ArePlacesOf, spend, IsCallEnd, IsSeen, FlagsDecide, IsPrepared, AgreesAt}
 use Rattle.native_code.proofs.Texts.{plain-length, length-append-code, placed-append, placed-plain, placed-length, Lies, lies-as, lies-front, lies-back}
 use Rattle.native_code.proofs.Texts.{offset-next, block-lies, block, pad, gap, end_of, end-is, gap-lies}
 use Rattle.native_code.proofs.Passing.{Passes, pass-none, passes}
 use Rattle.native_code.proofs.Walking.{jumped, jumped-if}
 use Rattle.native_code.proofs.Reaching.{Reaches, reach-none, reach-both, reach-straight, reach-one}
 use Rattle.native_code.proofs.Leaving.{leaves}
-use Rattle.native_code.proofs.Fitting.{distance-fits, plain-count, action-count, offset-small}
+use Rattle.native_code.proofs.Fitting.{distance-fits, plain-count, form-count, offset-small}
+use Rattle.native_code.proofs.Living.{computed-live, return-live, moves-so, seen-on, branch-only, write-only, Leads, leads, returned}
+use Rattle.native_code.proofs.Forms.{insn-there, ready-if, ready-there, compared-before, joined-after}
 
 -- ---- fuel in a register
 
@@ -103,85 +108,72 @@ agrees-wrote-fuel p call s x at w f places below a =
       memory = a.memory;
     }
 
--- ---- instructions are counted
+-- ---- forms
 
--- a list with something at its end
-some-last : (l : List X86Insn) (i : X86Insn) (rest : List X86Insn) → 1 ≤ length (l ++ i ∷ rest)
-some-last l i rest = let n = length-append l (i ∷ rest) in omega (arith, n)
+next-suc : (i j : ℕ) (e : Action) → next_after i e ≡ Some j → j ≡ suc i
+next-suc i j (actions.Compute to word) e = let n = same_Some (i + 1) j e in omega (arith, n)
+next-suc i j (actions.Load to base disp) e = let n = same_Some (i + 1) j e in omega (arith, n)
+next-suc i j (actions.LoadAround to base disp) e = let n = same_Some (i + 1) j e in omega (arith, n)
+next-suc i j (actions.Store from base disp) e = let n = same_Some (i + 1) j e in omega (arith, n)
+next-suc i j (actions.Branching Always) e = absurd cc
+next-suc i j (actions.Branching (When c r)) e = let n = same_Some (i + 1) j e in omega (arith, n)
+next-suc i j actions.Return e = absurd cc
 
-some-front : (l m : List X86Insn) → 1 ≤ length l → 1 ≤ length (l ++ m)
-some-front l m h = let n = length-append l m in omega (arith, n, h)
+-- whether an action is a branch that is taken
+abbrev taken_by : List ℕ → Action → Bool
+taken_by regs (actions.Branching test) = test_passes regs test
+taken_by regs _ = true
 
-some-back : (l m : List X86Insn) → 1 ≤ length m → 1 ≤ length (l ++ m)
-some-back l m h = let n = length-append l m in omega (arith, n, h)
+same-branch : (c k : Cond) (r q : ℕ) (regs : List ℕ) → actions.Branching (When c r) ≡ actions.Branching (When k q) →
+    takes k (read_reg regs q) ≡ takes c (read_reg regs r)
+same-branch c k r q regs e = ap (taken_by regs) (sym e)
 
-some-either : (b : Bool) (l m : List X86Insn) → 1 ≤ length l → 1 ≤ length m → 1 ≤ length (cond b l m)
-some-either true l m h k = h
-some-either false l m h k = k
+-- the word that a computation leaves
+wrote-word : (s t : State) (to : ℕ) (word : Computed) (jump : Option ℕ) → IsState s → to < 31 →
+    action_outcome (actions.Compute to word) jump s ≡ (moves.Moved, t) →
+    read_reg t.regs to ≡ word_computed s.regs word
+wrote-word s t to word jump state low moved =
+    let n : to ≢ 31 = λ e. omega (arith, low, e) in
+    let w : ℕ = word_computed s.regs word in
+    let count = state.regs.count in
+    ap (λ (q : Step × State). read_reg q.1.regs to) (sym moved)
+    ∙ ap (λ b. cond b 0 (slice_index (cond b s.regs (slice_set s.regs to w)) to)) (ne_eqb to 31 n)
+    ∙ get_or-set_same s.regs to w 0 (omega (arith, low, count))
 
-module _ (p : Places) (work left : ℕ) where
-  alu-some : (op : AluOp) (right : Rhs) → 1 ≤ length (alu_code p op work left right)
-  alu-some op (Lit n) = some-last (brought p left work) _ []
-  alu-some op (Reg r) =
-      some-either (is_in (operand_place p r) work) _ _ (some-last (ready p left RCX) _ [])
-      (some-back (ready p r RCX) _ (some-last (brought p left work) _ []))
+-- the end of a call that returned from a state that is the same but for registers that are dead
+end-seen : (lean : Lean) (call : Call) (s seen : State) (same : IsSeen lean s seen) (state : IsState s) → ReadsLive lean s.index actions.Return → (y : X86) →
+    IsCallEnd call (slice_index seen.regs 0) 0 seen y →
+    IsCallEnd call (slice_index s.regs 0) 0 s y
+end-seen lean call s seen same state reads y e = record {
+  word_is = e.word_is ∙ return-live lean s seen same state reads;
+  why_is = e.why_is;
+  kept = e.kept;
+  memory = λ a free. e.memory a free ∙ ap (λ m. read m a) same.memory;
+}
 
-  move-some : (op : AluOp) (right : Rhs) → 1 ≤ length (move_code p op work left right)
-  move-some op right = some-either (left == 31) _ _ (omega arith) (alu-some op right)
+-- the flags of a compare have bytes, and no jumps
+module _ (p : Places) (places : ArePlaces p) where
+  brought-straight : (b : Bool) (r to : ℕ) → r < 32 → to < 16 → Straight (cond b [] (fetch p r to ∷ []))
+  brought-straight true r to low h = no-insn
+  brought-straight false r to low h = one-straight (fetch p r to) (fetch-straight p places r to low h)
 
-  compare-some : (c : X86Cond) (right : Rhs) → 1 ≤ length (compare_code p c work left right)
-  compare-some c right = some-back (ready p left RAX) _ (some-last (cmp_code p left right) _ _)
+  ready-straight : (call : Call) (r temp : ℕ) → r < 32 → temp < 2 → Straight (ready p r temp)
+  ready-straight call r temp low h =
+      brought-straight (is_in (operand_place p r) (source p r temp)) r (source p r temp) low (source-below p call places r temp h)
 
-  shift-some : (op : ShiftOp) (right : Rhs) → 1 ≤ length (shift_code p op work left right)
-  shift-some op (Lit n) = some-last (brought p left work) _ []
-  shift-some op (Reg r) = omega arith
-
-  scaled-some : (s : Scale) (right : Rhs) → 1 ≤ length (scaled_code p s work left right)
-  scaled-some s (Lit n) = some-last (ready p left RAX) _ _
-  scaled-some s (Reg r) = some-back (ready p left RAX) _ (some-last (ready p r RCX) _ [])
-
-  extract-some : (last : X86Insn) (right : Rhs) → 1 ≤ length (extract_code p last work left right)
-  extract-some last (Lit n) = some-last (brought p left work) _ _
-  extract-some last (Reg r) = omega arith
-
-  op-some : (op : Op) (right : Rhs) → 1 ≤ length (op_code p op work left right)
-  op-some ops.Add right = move-some alu.Add right
-  op-some ops.Sub right = alu-some alu.Sub right
-  op-some ops.Band right = alu-some alu.And right
-  op-some ops.Bis right = move-some alu.Or right
-  op-some ops.Xor right = alu-some alu.Xor right
-  op-some ops.Sll right = shift-some Shl right
-  op-some ops.Srl right = shift-some Shr right
-  op-some ops.Sra right = shift-some Sar right
-  op-some ops.Cmpeq right = compare-some Equal right
-  op-some ops.Cmplt right = compare-some Less right
-  op-some ops.Cmple right = compare-some LessOrEqual right
-  op-some ops.Cmpult right = compare-some Below right
-  op-some ops.Cmpule right = compare-some BelowOrEqual right
-  op-some ops.Bic right = omega arith
-  op-some ops.S4add right = scaled-some Four right
-  op-some ops.S8add right = scaled-some Eight right
-  op-some ops.Extb right = extract-some (MovByte work work) right
-  op-some ops.Extw right = extract-some (MovTwo work work) right
-  op-some ops.Extl right = extract-some (MovFour work work) right
-
-  sum-some : (disp : ℤ) → 1 ≤ length (sum_code p work left disp)
-  sum-some disp = some-either (left == 31) _ _ (omega arith) (some-last (ready p left RAX) _ [])
-
--- an action with nothing behind its sequence has an instruction
-action-some : (p : Places) (e : Action) (jump : Option ℕ) → end_code p e jump ≡ [] → ((test : Test) → e ≡ actions.Branching test → ⊥) →
-    1 ≤ length (action_code p e)
-action-some p (actions.Compute to (Sum base disp)) jump none apart =
-    some-front (sum_code p (target p to) base disp) _ (sum-some p (target p to) base disp)
-action-some p (actions.Compute to (Applied op left right)) jump none apart =
-    some-front (op_code p op (work_reg p op to right) left right) _ (op-some p (work_reg p op to right) left op right)
-action-some p (actions.Load to base disp) jump none apart =
-    some-front (load_code p (target p to) base disp) _ (some-last (ready p base RCX) _ [])
-action-some p (actions.LoadAround to base disp) jump none apart =
-    some-front (load_around_code p (target p to) base disp) _ (some-last (ready p base RCX) _ _)
-action-some p (actions.Store from base disp) jump none apart = some-back (ready p base RCX) _ (some-last (ready p from RAX) _ [])
-action-some p (actions.Branching test) jump none apart = absurd (apart test refl)
-action-some p actions.Return jump none apart = absurd cc
+  flags-straight : (call : Call) (left : ℕ) (right : Rhs) → left < 32 → IsRhs right → Straight (ready_cmp_code p left right)
+  flags-straight call left (Lit n) h k =
+      both-straight (ready p left RAX) _ (ready-straight call left 0 h (omega arith))
+      (one-straight _ (straight (AluImm alu.Cmp (source p left RAX) (pos n)) (
+        source-below p call places left 0 (omega arith),
+        record { sfits = omega (arith, k) },
+      )
+      refl refl))
+  flags-straight call left (Reg r) h k =
+      both-straight (ready p left RAX) _ (ready-straight call left 0 h (omega arith))
+      (both-straight (ready p r RCX) _ (ready-straight call r 1 k (omega arith))
+      (one-straight _ (straight (Alu alu.Cmp (source p left RAX) (source p r RCX))
+      (source-below p call places left 0 (omega arith), source-below p call places r 1 (omega arith)) refl refl)))
 
 -- ---- where a branch leads
 
@@ -209,18 +201,18 @@ branch-target : (n i : ℕ) (insn : Insn) (test : Test) → action_of insn ≡ a
     (k : ℕ) × (jump_of i insn ≡ Some k) × (k < n)
 branch-target n i insn test e h = format-target n i (format_of insn) test e h
 
-module _ (p : Places) (metered : Bool) (code : List Insn) (ok : IsCode code) (of : ArePlacesOf p code) where
+module _ (p : Places) (lean : Lean) (metered : Bool) (code : List Insn) (ok : IsCode code) (lives : IsLean lean code) (of : ArePlacesOf p lean code) where
   abbrev text : List ℕ
-  text = native_text p metered code
+  text = native_text p lean metered code
 
   abbrev offset : ℕ → ℕ
-  offset = offset_of p metered code
+  offset = offset_of p lean metered code
 
   abbrev places : ArePlaces p
   places = of.places
 
   small : (k : ℕ) → k ≤ suc (length code) → offset k < 2 ^ 30
-  small k h = offset-small p places metered code k ok h
+  small k h = offset-small p places lean metered code k ok h
 
   -- ---- taking a unit of fuel
 
@@ -294,13 +286,20 @@ module _ (p : Places) (metered : Bool) (code : List Insn) (ok : IsCode code) (of
     pub reaches : Reaches text (length (taking b)) x end
     pub at : end.at ≡ x.at + code_length (taking b)
     pub agrees : Agrees p (spend call (units b)) s end
+    pub flags : b ≡ false → end.flags ≡ x.flags
 
   pub charged : (b : Bool) (call : Call) (s : State) (x : X86) → Agrees p call s x → x.at + 13 < 2 ^ 31 →
       Lies text x.at (placed_from offset x.at (taking b)) → units b ≤ call.fuel → Charged call s x b
   charged false call s x a near lies enough =
       let none : call.fuel ≡ call.fuel - 0 = omega arith in
       let same : x.at ≡ x.at + 0 = omega arith in
-      record { end = x; reaches = reach-none text x; at = same; agrees = agrees-fuel p call (call.fuel - 0) s x a (a.fuel ∙ none) }
+      record {
+        end = x;
+        reaches = reach-none text x;
+        at = same;
+        agrees = agrees-fuel p call (call.fuel - 0) s x a (a.fuel ∙ none);
+        flags = λ _. refl;
+      }
   charged true call s x a near lies enough =
       let f = a.fuel in
       let one : 1 ≤ call.fuel = enough in
@@ -312,6 +311,7 @@ module _ (p : Places) (metered : Bool) (code : List Insn) (ok : IsCode code) (of
         reaches = reach-decided call s x a false near lies (ne_eqb (slice_index x.regs FUEL) 0 some);
         at = let e : x.at + 7 + 6 ≡ x.at + (7 + (6 + 0)) = omega arith in e;
         agrees = subst (λ w. Agrees p (record call { fuel = w }) s (decided call s x a false)) less (decided-agrees call s x a false);
+        flags = λ e. absurd cc;
       }
 
   -- no unit is left
@@ -339,13 +339,13 @@ module _ (p : Places) (metered : Bool) (code : List Insn) (ok : IsCode code) (of
     inside = slice_get_within code i insn here
 
     abbrev insns : List X86Insn
-    insns = insn_code p insn
+    insns = form_code p (form_at lean i) (action_of insn)
 
     abbrev ending : List NativeInsn
-    ending = end_code p (action_of insn) (jump_of i insn)
+    ending = form_end p (form_at lean i) (action_of insn) (jump_of i insn)
 
     abbrev charging : List NativeInsn
-    charging = fuel_code p metered code i
+    charging = fuel_code p lean metered code i
 
     -- where the sequence begins
     abbrev pub middle : ℕ
@@ -353,9 +353,10 @@ module _ (p : Places) (metered : Bool) (code : List Insn) (ok : IsCode code) (of
 
     whole-lies : Lies text (offset i) (placed_from offset (offset i) (charging ++ (plain insns ++ ending)))
     whole-lies =
-        lies-as text (offset i) (placed_from offset (offset i) (block p metered code i)) (placed_from offset (offset i) (charging ++ (plain insns ++ ending)))
-        (ap (λ o. placed_from offset (offset i) (block_at p metered code i o)) here)
-        (block-lies p metered code i (let h = inside in omega (arith, h)))
+        lies-as text (offset i) (placed_from offset (offset i) (block p lean metered code i))
+        (placed_from offset (offset i) (charging ++ (plain insns ++ ending)))
+        (ap (λ o. placed_from offset (offset i) (block_at p lean metered code i o)) here)
+        (block-lies p lean metered code i (let h = inside in omega (arith, h)))
 
     -- the two parts of the block
     abbrev second : List X86Insn
@@ -390,35 +391,35 @@ module _ (p : Places) (metered : Bool) (code : List Insn) (ok : IsCode code) (of
     ending-lies = lies-back text middle insns (placed_from offset after ending) second-lies
 
     -- the block ends after the ending
-    last-is : end_of p metered code i ≡ after + code_length ending
+    last-is : end_of p lean metered code i ≡ after + code_length ending
     last-is =
-        let n = end-is p metered code i in
-        let b : code_length (block p metered code i) ≡ code_length (charging ++ (plain insns ++ ending)) =
-        ap (λ o. code_length (block_at p metered code i o)) here in
+        let n = end-is p lean metered code i in
+        let b : code_length (block p lean metered code i) ≡ code_length (charging ++ (plain insns ++ ending)) =
+        ap (λ o. code_length (block_at p lean metered code i o)) here in
         let one = length-append-code charging (plain insns ++ ending) in
         let two = length-append-code (plain insns) ending in
         let three = plain-length insns in
         omega (arith, n, b, one, two, three)
 
     -- the next block begins after padding
-    next-is : offset (suc i) ≡ after + code_length ending + code_length (gap p metered code i)
+    next-is : offset (suc i) ≡ after + code_length ending + code_length (gap p lean metered code i)
     next-is =
-        let n = offset-next p metered code i in
-        let e = end-is p metered code i in
+        let n = offset-next p lean metered code i in
+        let e = end-is p lean metered code i in
         let l = last-is in
         omega (arith, n, e, l)
 
     -- a run that comes to the block's end goes on at the next block
-    passed : (x : X86) → IsX86 x → x.at ≡ after + code_length ending → Passes p places metered code ok (suc i) (length (gap p metered code i)) x
+    passed : (x : X86) → IsX86 x → x.at ≡ after + code_length ending → Passes p places lean metered code ok (suc i) (length (gap p lean metered code i)) x
     passed x is at =
-        let same : x.at ≡ end_of p metered code i = at ∙ sym last-is in
+        let same : x.at ≡ end_of p lean metered code i = at ∙ sym last-is in
         let h = inside in
         let n = next-is in
         let s = small (suc i) (omega (arith, h)) in
-        let e = ap (λ k. code_length (pad p metered code (suc i) k)) same in
-        subst (λ k. Passes p places metered code ok (suc i) (length (pad p metered code (suc i) k)) x) same
-        (passes p places metered code ok (suc i) x is (omega (arith, h)) (omega (arith, n, s, at))
-        (subst (λ k. Lies text k (placed_from offset k (pad p metered code (suc i) k))) (sym same) (gap-lies p metered code i (omega (arith, h))))
+        let e = ap (λ k. code_length (pad p lean metered code (suc i) k)) same in
+        subst (λ k. Passes p places lean metered code ok (suc i) (length (pad p lean metered code (suc i) k)) x) same
+        (passes p places lean metered code ok (suc i) x is (omega (arith, h)) (omega (arith, n, s, at))
+        (subst (λ k. Lies text k (placed_from offset k (pad p lean metered code (suc i) k))) (sym same) (gap-lies p lean metered code i (omega (arith, h))))
         (omega (arith, n, at, e)))
 
     pub near : offset i + 13 < 2 ^ 31
@@ -432,8 +433,8 @@ module _ (p : Places) (metered : Bool) (code : List Insn) (ok : IsCode code) (of
 
     -- where a branch leads, either way
     two-ways : (target : ℕ) (v : Bool) (x : X86) → IsX86 x → x.at ≡ cond v (offset target) (after + code_length ending) →
-        Passes p places metered code ok (cond v target (suc i)) (length (gap p metered code i)) x
-    two-ways target true x is at = pass-none p places metered code ok target (length (gap p metered code i)) x is at
+        Passes p places lean metered code ok (cond v target (suc i)) (length (gap p lean metered code i)) x
+    two-ways target true x is at = pass-none p places lean metered code ok target (length (gap p lean metered code i)) x is at
     two-ways target false x is at = passed x is at
 
     -- ---- a step that moves
@@ -442,28 +443,82 @@ module _ (p : Places) (metered : Bool) (code : List Insn) (ok : IsCode code) (of
     abbrev pub IsNext : ℕ → Type 0
     IsNext j = (j ≡ suc i) ⊎ (jump_of i insn ≡ Some j)
 
-    -- One or more steps lead from the sequence to the block of the next index: no more than there are instructions up to there.
+    -- Steps lead from the sequence to the block of the index of a state, and in agreement: no more than there are instructions up to there. There is one,
+    -- or the index is further on.
+    record Lands (call : Call) (t : State) (x : X86) : Type 0 where
+      count : ℕ
+      on : (1 ≤ count) ⊎ (i < t.index)
+      few : count ≤ length insns + length ending + length (gap p lean metered code i)
+      brief : count ≤ 8
+      end : X86
+      reaches : Reaches text count x end
+      at : end.at ≡ offset t.index
+      agrees : Agrees p call t end
+
+    -- They do so from a state that agrees but for registers that are dead to one that does.
     pub record Moves (call : Call) (t : State) (x : X86) : Type 0 where
       pub count : ℕ
-      pub some : 1 ≤ count
-      pub few : count ≤ length insns + length ending + length (gap p metered code i)
+      pub on : (1 ≤ count) ⊎ (i < t.index)
+      pub few : count ≤ length insns + length ending + length (gap p lean metered code i)
       pub brief : count ≤ 8
       pub end : X86
       pub reaches : Reaches text count x end
       pub next : IsNext t.index
-      pub agrees : AgreesAt p metered code call t end
+      pub agrees : AgreesAt p lean metered code call t end
 
-    next-as : (j k : ℕ) → k ≡ j → IsNext j → IsNext k
-    next-as j k e h = subst IsNext (sym e) h
+    -- by a jump where a condition holds
+    record JumpsIf (j : ℕ) (y : X86) : Type 0 where
+      count : ℕ
+      some : 1 ≤ count
+      few : count ≤ length ending + length (gap p lean metered code i)
+      brief : count ≤ 2
+      end : X86
+      reaches : Reaches text count y end
+      at : end.at ≡ offset j
+      same : SameBut y end
 
-    either-way : (target : ℕ) (b : Bool) → jump_of i insn ≡ Some target → IsNext (cond b target (suc i))
-    either-way target true leads = inr leads
-    either-way target false leads = inl refl
+    jumps-if : (c : X86Cond) (target : ℕ) (b : Bool) (f : Flags) (y : X86) → IsX86 y → y.at ≡ after → ending ≡ GoIf c target ∷ [] →
+        target < length code → y.flags ≡ Some f → cond_holds c f ≡ b →
+        JumpsIf (cond b target (suc i)) y
+    jumps-if c target b f y is at_after last low known holds =
+        let one : length ending ≡ 1 = ap length last in
+        let jump : X86Insn = JumpIf c (distance (y.at + 6) (offset target)) in
+        let lies : Lies text y.at (jump ∷ []) =
+        subst (λ n. Lies text n (JumpIf c (distance (n + 6) (offset target)) ∷ [])) (sym at_after)
+        (lies-as text after (placed_from offset after ending) (placed_from offset after (GoIf c target ∷ []))
+        (ap (placed_from offset after) last) ending-lies) in
+        let far : FitsSigned w32 (distance (y.at + 6) (offset target)) =
+        jump-insn (y.at + 6) target (let a = after-small in omega (arith, a, at_after)) (omega (arith, low)) in
+        let end : X86 = record y { at = cond b (offset target) (y.at + 6) } in
+        let to-end : Reaches text 1 y end =
+        reach-one text y end jump [] (record { widths = far; operands = refl }) lies (jumped-if y (y.at + 6) (offset target) c f b known holds) in
+        let six : y.at + 6 ≡ after + code_length ending = let l : code_length ending ≡ 6 = ap code_length last in omega (arith, l, at_after) in
+        let end-same = flags-same y (cond b (offset target) (y.at + 6)) y.flags is in
+        let g = two-ways target b end end-same.machine (ap (λ n. cond b (offset target) n) six) in
+        let step = g.brief in
+        let most = g.few in
+        record {
+          count = 1 + g.count;
+          some = omega arith;
+          few = omega (arith, one, most);
+          brief = omega (arith, step);
+          end = g.end;
+          reaches = reach-both text y end g.end to-end g.reaches;
+          at = g.at;
+          same = same-trans y end g.end end-same g.same;
+        }
+
+    -- a branch leads to its target, or to the next index
+    branched : (s : State) → s.index ≡ i → (target : ℕ) (b : Bool) →
+        state_at s (cond b (Some target) (Some (s.index + 1))) ≡ record s { index = cond b target (suc i) }
+    branched s at_index target true = refl
+    branched s at_index target false = let one : s.index + 1 ≡ suc i = omega (arith, at_index) in ap (λ n. record s { index = n }) one
 
     -- the instructions of the block
-    pub block-count : length (block p metered code i) ≡ length charging + (length insns + length ending)
+    pub block-count : length (block p lean metered code i) ≡ length charging + (length insns + length ending)
     block-count =
-        let b : length (block p metered code i) ≡ length (charging ++ (plain insns ++ ending)) = ap (λ o. length (block_at p metered code i o)) here in
+        let b : length (block p lean metered code i) ≡ length (charging ++ (plain insns ++ ending)) =
+        ap (λ o. length (block_at p lean metered code i o)) here in
         let one = length-append charging (plain insns ++ ending) in
         let two = length-append (plain insns) ending in
         let three = plain-count insns in
@@ -475,32 +530,33 @@ module _ (p : Places) (metered : Bool) (code : List Insn) (ok : IsCode code) (of
         lie-here : Lies text x.at insns
         lie-here = subst (λ n. Lies text n insns) (sym at_middle) insns-lie
 
-        -- the sequence, and nothing more
-        falls : ending ≡ [] → 1 ≤ length insns → EndsInAgreement p call insns x t → t.index ≡ suc i → Moves call t x
-        falls none some e index =
-            let all = sequence-straight p insn places (ok.encoded i insn here) in
+        -- the sequence, and nothing more: the flags are its own
+        falls : Straight insns → ending ≡ [] → (e : EndsInAgreement p call insns x t) → t.index ≡ suc i →
+            (l : Lands call t x) × (l.end.flags ≡ e.end.flags)
+        falls all none e index =
             let reaches : Reaches text (length insns) x e.end = reach-straight text insns x e.end lie-here all e.runs in
             let a = e.at in
             let m = at_middle in
             let no-more : code_length ending ≡ 0 = ap code_length none in
             let g = passed e.end e.agrees.machine (omega (arith, a, m, no-more)) in
             let one = g.brief in
-            let most = g.few in
-            record {
-              count = length insns + g.count;
-              some = omega (arith, some);
-              few = omega (arith, most);
-              brief = let short = action-count p places (action_of insn) in omega (arith, short, one);
-              end = g.end;
-              reaches = reach-both text x e.end g.end reaches g.reaches;
-              next = inl index;
-              agrees = record { at = g.at ∙ ap offset (sym index); agrees = agrees-same p call t e.end g.end places e.agrees g.same };
-            }
+            let most = g.few in (
+              record {
+                count = length insns + g.count;
+                on = inr (omega (arith, index));
+                few = omega (arith, most);
+                brief = let short = form-count p places (form_at lean i) (action_of insn) in omega (arith, short, one);
+                end = g.end;
+                reaches = reach-both text x e.end g.end reaches g.reaches;
+                at = g.at ∙ ap offset (sym index);
+                agrees = agrees-same p call t e.end g.end places e.agrees g.same;
+              },
+              g.flags,
+            )
 
         -- the sequence of a branch that is always taken is empty
-        goes : (target : ℕ) → insns ≡ [] → ending ≡ Go target ∷ [] → jump_of i insn ≡ Some target → target < length code → t ≡ record s { index = target } →
-            Moves call t x
-        goes target none last leads low e =
+        goes : (target : ℕ) → insns ≡ [] → ending ≡ Go target ∷ [] → target < length code → t ≡ record s { index = target } → Lands call t x
+        goes target none last low e =
             let end : X86 = record x { at = offset target } in
             let at_after : x.at ≡ after = let m = at_middle in let z : total_length insns ≡ 0 = ap total_length none in omega (arith, m, z) in
             let jump : X86Insn = Jump (distance (x.at + 5) (offset target)) in
@@ -518,59 +574,45 @@ module _ (p : Places) (metered : Bool) (code : List Insn) (ok : IsCode code) (of
             (agrees-same p call s x end places agrees (flags-same x (offset target) x.flags agrees.machine)) in
             record {
               count = 1;
-              some = omega arith;
+              on = inl (omega arith);
               few = omega (arith, one);
               brief = omega arith;
               end = end;
               reaches = reaches;
-              next = next-as target t.index (ap (λ (u : State). u.index) e) (inr leads);
-              agrees = subst (λ u. AgreesAt p metered code call u end) (sym e) (record { at = refl; agrees = moved });
+              at = ap (λ (u : State). offset u.index) (sym e);
+              agrees = subst (λ u. Agrees p call u end) (sym e) moved;
             }
 
         -- a branch on a register
-        decides : (c : Cond) (r target : ℕ) → insns ≡ test_code p (When c r) → ending ≡ GoIf (branch_cond c) target ∷ [] → jump_of i insn ≡ Some target →
-            target < length code →
-            DecidesBranch p call c r x s → t ≡ record s { index = cond (takes c (read_reg s.regs r)) target (suc i) } → Moves call t x
-        decides c r target seq last leads low d e =
+        decides : Straight insns → (c : Cond) (r target : ℕ) → insns ≡ test_code p (When c r) → ending ≡ GoIf (branch_cond c) target ∷ [] →
+            target < length code → DecidesBranch p call c r x s →
+            t ≡ record s { index = cond (takes c (read_reg s.regs r)) target (suc i) } →
+            Lands call t x
+        decides all c r target seq last low d e =
             let b : Bool = takes c (read_reg s.regs r) in
             let y : X86 = d.comes.end in
-            let one : length ending ≡ 1 = ap length last in
             let to-y : Reaches text (length insns) x y =
-            reach-straight text insns x y lie-here (sequence-straight p insn places (ok.encoded i insn here))
-            (subst (λ l. x86_straight l x ≡ Some y) (sym seq) d.comes.runs) in
+            reach-straight text insns x y lie-here all (subst (λ l. x86_straight l x ≡ Some y) (sym seq) d.comes.runs) in
             let at_after : y.at ≡ after =
             let m = at_middle in
             let a = d.comes.at in
             let l : total_length insns ≡ total_length (test_code p (When c r)) = ap total_length seq in
             omega (arith, m, a, l) in
-            let jump : X86Insn = JumpIf (branch_cond c) (distance (y.at + 6) (offset target)) in
-            let lies : Lies text y.at (jump ∷ []) =
-            subst (λ n. Lies text n (JumpIf (branch_cond c) (distance (n + 6) (offset target)) ∷ [])) (sym at_after)
-            (lies-as text after (placed_from offset after ending) (placed_from offset after (GoIf (branch_cond c) target ∷ []))
-            (ap (placed_from offset after) last) ending-lies) in
-            let far : FitsSigned w32 (distance (y.at + 6) (offset target)) =
-            jump-insn (y.at + 6) target (let a = after-small in omega (arith, a, at_after)) (omega (arith, low)) in
-            let end : X86 = record y { at = cond b (offset target) (y.at + 6) } in
-            let to-end : Reaches text 1 y end =
-            reach-one text y end jump [] (record { widths = far; operands = refl }) lies
-            (jumped-if y (y.at + 6) (offset target) (branch_cond c) d.flags b d.set d.says) in
-            let six : y.at + 6 ≡ after + code_length ending = let l : code_length ending ≡ 6 = ap code_length last in omega (arith, l, at_after) in
-            let end-same = flags-same y (cond b (offset target) (y.at + 6)) y.flags d.comes.agrees.machine in
-            let g = two-ways target b end end-same.machine (ap (λ n. cond b (offset target) n) six) in
+            let g = jumps-if (branch_cond c) target b d.flags y d.comes.agrees.machine at_after last low d.set d.says in
             let step = g.brief in
             let most = g.few in
+            let some = g.some in
             let moved : Agrees p call (record s { index = cond b target (suc i) }) g.end =
-            agrees-index p call places s (cond b target (suc i)) g.end
-            (agrees-same p call s end g.end places (agrees-same p call s y end places d.comes.agrees end-same) g.same) in
+            agrees-index p call places s (cond b target (suc i)) g.end (agrees-same p call s y g.end places d.comes.agrees g.same) in
             record {
-              count = length insns + 1 + g.count;
-              some = omega arith;
-              few = omega (arith, one, most);
-              brief = let short = action-count p places (action_of insn) in omega (arith, short, step);
+              count = length insns + g.count;
+              on = inl (omega (arith, some));
+              few = omega (arith, most);
+              brief = let short = form-count p places (form_at lean i) (action_of insn) in omega (arith, short, step);
               end = g.end;
-              reaches = reach-both text x end g.end (reach-both text x y end to-y to-end) g.reaches;
-              next = next-as (cond b target (suc i)) t.index (ap (λ (u : State). u.index) e) (either-way target b leads);
-              agrees = subst (λ u. AgreesAt p metered code call u g.end) (sym e) (record { at = g.at; agrees = moved });
+              reaches = reach-both text x y g.end to-y g.reaches;
+              at = g.at ∙ ap (λ (u : State). offset u.index) (sym e);
+              agrees = subst (λ u. Agrees p call u g.end) (sym e) moved;
             }
 
         -- ---- each action
@@ -603,46 +645,56 @@ module _ (p : Places) (metered : Bool) (code : List Insn) (ok : IsCode code) (of
         next-index (actions.Branching test) jump none apart e = absurd (apart test refl)
         next-index actions.Return jump none apart e = let wrong : moves.Returned ≡ moves.Moved = ap (λ q. q.0) e in absurd cc
 
-        -- a branch leads to its target, or to the next index
-        branched : (target : ℕ) (b : Bool) → state_at s (cond b (Some target) (Some (s.index + 1))) ≡ record s { index = cond b target (suc i) }
-        branched target true = refl
-        branched target false = ap (λ n. record s { index = n }) suc-index
+        -- all that the instruction does
+        module _ (form : form_at lean i ≡ Whole) where
+          insns-are : insns ≡ insn_code p insn
+          insns-are = ap (λ f. form_code p f (action_of insn)) form
 
-        straight-on : (e : Action) → action_of insn ≡ e → end_code p e (jump_of i insn) ≡ [] → ((test : Test) → e ≡ actions.Branching test → ⊥) →
-            insn_outcome insn s ≡ (moves.Moved, t) →
-            action_outcome e (jump_of i insn) s ≡ (moves.Moved, t) →
-            Moves call t x
-        straight-on e is none apart whole out_is =
-            let some : 1 ≤ length (action_code p e) = action-some p e (jump_of i insn) none apart in
-            falls (ap (λ a. end_code p a (jump_of i insn)) is ∙ none) (subst (λ a. 1 ≤ length (action_code p a)) (sym is) some)
-            (simulates p call insn s t x places (ok.encoded i insn here) (of.reads i insn here) state lent agrees whole)
-            (next-index e (jump_of i insn) none apart out_is)
+          ending-is : ending ≡ end_code p (action_of insn) (jump_of i insn)
+          ending-is = ap (λ f. form_end p f (action_of insn) (jump_of i insn)) form
 
-        moves-by : (e : Action) → action_of insn ≡ e → insn_outcome insn s ≡ (moves.Moved, t) → action_outcome e (jump_of i insn) s ≡ (moves.Moved, t) →
-            Moves call t x
-        moves-by (actions.Compute to word) is whole out_is = straight-on (actions.Compute to word) is refl (λ test f. absurd cc) whole out_is
-        moves-by (actions.Load to base disp) is whole out_is = straight-on (actions.Load to base disp) is refl (λ test f. absurd cc) whole out_is
-        moves-by (actions.LoadAround to base disp) is whole out_is = straight-on (actions.LoadAround to base disp) is refl (λ test f. absurd cc) whole out_is
-        moves-by (actions.Store from base disp) is whole out_is = straight-on (actions.Store from base disp) is refl (λ test f. absurd cc) whole out_is
-        moves-by (actions.Branching Always) is whole out_is =
-            let to = branch-target (length code) i insn Always is (ok.inside i insn here) in
-            goes to.0 (ap (action_code p) is)
-            (ap (λ a. end_code p a (jump_of i insn)) is ∙ ap (branch_code p Always) to.1) to.1
-            to.2 (ap (λ (q : Step × State). q.1) (sym out_is) ∙ ap (state_at s) to.1)
-        moves-by (actions.Branching (When c r)) is whole out_is =
-            let to = branch-target (length code) i insn (When c r) is (ok.inside i insn here) in
-            let there : IsSomewhere p r = subst (ReadsPlaced p) is (of.reads i insn here) in
-            let b : Bool = takes c (read_reg s.regs r) in
-            decides c r to.0 (ap (action_code p) is)
-            (ap (λ a. end_code p a (jump_of i insn)) is ∙ ap (branch_code p (When c r)) to.1) to.1
-            to.2 (tests p call c r s x places there state lent agrees)
-            (ap (λ (q : Step × State). q.1) (sym out_is) ∙ ap (λ j. state_at s (cond b j (Some (s.index + 1)))) to.1 ∙ branched to.0 b)
-        moves-by actions.Return is whole out_is = let wrong : moves.Returned ≡ moves.Moved = ap (λ q. q.0) out_is in absurd cc
+          all-straight : Straight insns
+          all-straight = subst Straight (sym insns-are) (sequence-straight p insn places (ok.encoded i insn here))
 
-        -- from the sequence to the next block
-        pub moves-on : insn_outcome insn s ≡ (moves.Moved, t) → Moves call t x
-        moves-on whole =
-            moves-by (action_of insn) refl whole (ap (λ n. action_outcome (action_of insn) (jump_of n insn) s) (sym at_index) ∙ whole)
+          placed-reads : ReadsPlaced p (action_of insn)
+          placed-reads = of.reads i insn here (ap reads_operands form)
+
+          straight-on : (e : Action) → action_of insn ≡ e → end_code p e (jump_of i insn) ≡ [] → ((test : Test) → e ≡ actions.Branching test → ⊥) →
+              insn_outcome insn s ≡ (moves.Moved, t) →
+              action_outcome e (jump_of i insn) s ≡ (moves.Moved, t) →
+              Lands call t x
+          straight-on e is none apart whole out_is =
+              (falls all-straight (ending-is ∙ ap (λ a. end_code p a (jump_of i insn)) is ∙ none)
+              (subst (λ l. EndsInAgreement p call l x t) (sym insns-are)
+              (simulates p call insn s t x places (ok.encoded i insn here) placed-reads state lent agrees whole))
+              (next-index e (jump_of i insn) none apart out_is)).0
+
+          lands-by : (e : Action) → action_of insn ≡ e → insn_outcome insn s ≡ (moves.Moved, t) →
+              action_outcome e (jump_of i insn) s ≡ (moves.Moved, t) →
+              Lands call t x
+          lands-by (actions.Compute to word) is whole out_is = straight-on (actions.Compute to word) is refl (λ test f. absurd cc) whole out_is
+          lands-by (actions.Load to base disp) is whole out_is = straight-on (actions.Load to base disp) is refl (λ test f. absurd cc) whole out_is
+          lands-by (actions.LoadAround to base disp) is whole out_is = straight-on (actions.LoadAround to base disp) is refl (λ test f. absurd cc) whole out_is
+          lands-by (actions.Store from base disp) is whole out_is = straight-on (actions.Store from base disp) is refl (λ test f. absurd cc) whole out_is
+          lands-by (actions.Branching Always) is whole out_is =
+              let to = branch-target (length code) i insn Always is (ok.inside i insn here) in
+              goes to.0 (insns-are ∙ ap (action_code p) is)
+              (ending-is ∙ ap (λ a. end_code p a (jump_of i insn)) is ∙ ap (branch_code p Always) to.1)
+              to.2 (ap (λ (q : Step × State). q.1) (sym out_is) ∙ ap (state_at s) to.1)
+          lands-by (actions.Branching (When c r)) is whole out_is =
+              let to = branch-target (length code) i insn (When c r) is (ok.inside i insn here) in
+              let there : IsSomewhere p r = subst (ReadsPlaced p) is placed-reads in
+              let b : Bool = takes c (read_reg s.regs r) in
+              decides all-straight c r to.0 (insns-are ∙ ap (action_code p) is)
+              (ending-is ∙ ap (λ a. end_code p a (jump_of i insn)) is ∙ ap (branch_code p (When c r)) to.1)
+              to.2 (tests p call c r s x places there state lent agrees)
+              (ap (λ (q : Step × State). q.1) (sym out_is) ∙ ap (λ j. state_at s (cond b j (Some (s.index + 1)))) to.1 ∙ branched s at_index to.0 b)
+          lands-by actions.Return is whole out_is = let wrong : moves.Returned ≡ moves.Moved = ap (λ q. q.0) out_is in absurd cc
+
+          -- from the sequence to the next block
+          lands-on : insn_outcome insn s ≡ (moves.Moved, t) → Lands call t x
+          lands-on whole =
+              lands-by (action_of insn) refl whole (ap (λ n. action_outcome (action_of insn) (jump_of n insn) s) (sym at_index) ∙ whole)
 
         -- ---- a return
 
@@ -654,15 +706,16 @@ module _ (p : Places) (metered : Bool) (code : List Insn) (ok : IsCode code) (of
           pub left : x86_run text count x ≡ (outcomes.Left, end)
           pub returns : IsCallEnd call (slice_index s.regs 0) 0 s end
 
-        ends-here : action_of insn ≡ actions.Return → Ends
-        ends-here is =
-            let seq : insns ≡ [] = ap (action_code p) is in
+        ends-here : form_at lean i ≡ Whole → action_of insn ≡ actions.Return → Ends
+        ends-here form is =
+            let seq : insns ≡ [] = insns-are form ∙ ap (action_code p) is in
             let at_after : x.at ≡ after = let m = at_middle in let z : total_length insns ≡ 0 = ap total_length seq in omega (arith, m, z) in
+            let returns : ending ≡ plain (return_code p) = ending-is form ∙ ap (λ a. end_code p a (jump_of i insn)) is in
             let last : placed_from offset after ending ≡ return_code p =
-            ap (λ a. placed_from offset after (end_code p a (jump_of i insn))) is ∙ placed-plain offset after (return_code p) in
+            ap (placed_from offset after) returns ∙ placed-plain offset after (return_code p) in
             let lies : Lies text x.at (return_code p) =
             subst (λ n. Lies text n (return_code p)) (sym at_after) (lies-as text after (placed_from offset after ending) (return_code p) last ending-lies) in
-            let there : IsSomewhere p 0 = subst (ReadsPlaced p) is (of.reads i insn here) in
+            let there : IsSomewhere p 0 = subst (ReadsPlaced p) is (placed-reads form) in
             let y : X86 = with_reg p call places s x state lent agrees 0 RAX in
             let to-y : Reaches text 1 x y =
             reach-one text x y (fetch p 0 RAX) (exit_code p 0) (fetch-straight p places 0 RAX (omega arith) (omega arith)).insn lies
@@ -673,26 +726,246 @@ module _ (p : Places) (metered : Bool) (code : List Insn) (ok : IsCode code) (of
             let l =
             leaves p call s places lent y (with-agrees p call places s x state lent agrees 0 RAX (omega arith)) text (slice_index s.regs 0) 0 (omega arith)
             (with-reads p call places s x state lent agrees 0 RAX (omega arith)) behind in
-            let all : length ending ≡ length (plain (return_code p)) = ap (λ a. length (end_code p a (jump_of i insn))) is in
+            let all : length ending ≡ length (plain (return_code p)) = ap length returns in
             let same = plain-count (return_code p) in
             let exit = l.all in
             record { count = 1 + l.count; all = omega (arith, all, same, exit); end = l.end; left = to-y.runs l.count ∙ l.left; returns = l.returns }
 
-        access-stays : (kind : Kind) (may : Bool) (a : ℕ) (u v : State) → access_outcome kind may a s u ≡ (moves.Returned, v) → ⊥
-        access-stays kind true a u v e = let wrong : moves.Moved ≡ moves.Returned = ap (λ q. q.0) e in absurd cc
-        access-stays kind false a u v e = let wrong : moves.Blocked s.index kind a ≡ moves.Returned = ap (λ q. q.0) e in absurd cc
+    -- ---- by forms
 
-        -- only a return returns, and it changes nothing
-        returned : (e : Action) (jump : Option ℕ) (v : State) → action_outcome e jump s ≡ (moves.Returned, v) → (e ≡ actions.Return) × (v ≡ s)
-        returned (actions.Compute to word) jump v e = let wrong : moves.Moved ≡ moves.Returned = ap (λ q. q.0) e in (cc, cc)
-        returned (actions.Load to base disp) jump v e =
-            let a = address_of s.regs base disp in absurd (access-stays kinds.Load (allowed s.rights.reads a) a (loaded to a) v e)
-        returned (actions.LoadAround to base disp) jump v e =
-            let a = aligned (address_of s.regs base disp) in absurd (access-stays kinds.Load (allowed s.rights.reads a) a (loaded to a) v e)
-        returned (actions.Store from base disp) jump v e =
-            let a = address_of s.regs base disp in absurd (access-stays kinds.Store (allowed s.rights.writes a) a (kept a from) v e)
-        returned (actions.Branching test) jump v e = let wrong : moves.Moved ≡ moves.Returned = ap (λ q. q.0) e in (cc, cc)
-        returned actions.Return jump v e = (refl, ap (λ (q : Step × State). q.1) (sym e))
+    module _ (call : Call) (s seen : State) (x : X86) (state : IsState s) (same : IsSeen lean s seen) (lent : IsLent call seen.rights) (at_index : s.index ≡ i)
+        (at_middle : x.at ≡ middle) (agrees : Agrees p call seen x) (ready : IsPrepared (form_at lean i) code s x)
+      where
+        seen_index : seen.index ≡ i
+        seen_index = same.index ∙ at_index
 
-        pub returns-so : (v : State) → insn_outcome insn s ≡ (moves.Returned, v) → Ends × (v ≡ s)
-        returns-so v e = let r = returned (action_of insn) (jump_of s.index insn) v e in (ends-here r.0, r.1)
+        there : form_at lean i ≢ Gone
+        there = ready-there (form_at lean i) code s x ready
+
+        is_lean : IsLeanAt lean code i insn
+        is_lean = lives.at i insn here there
+
+        fits-as : (f : Form) → form_at lean i ≡ f → FitsForm lean code i insn f
+        fits-as f e = subst (FitsForm lean code i insn) e is_lean.fits
+
+        lands-somewhere : (test : Test) → action_of insn ≡ actions.Branching test → jump_of i insn ≡ None → ⊥
+        lands-somewhere test is none =
+            let to = branch-target (length code) i insn test is (ok.inside i insn here) in
+            let wrong : Some to.0 ≡ None = sym to.1 ∙ none in absurd cc
+
+        -- a step that moves
+        module _ (t : State) (whole : insn_outcome insn s ≡ (moves.Moved, t)) where
+          acts : action_outcome (action_of insn) (jump_of i insn) s ≡ (moves.Moved, t)
+          acts = ap (λ n. action_outcome (action_of insn) (jump_of n insn) s) (sym at_index) ∙ whole
+
+          goes-on : MayGoOn i insn t.index
+          goes-on =
+              subst (λ n. Leads n (action_of insn) (jump_of i insn) t.index) at_index
+              (leads s t (action_of insn) (jump_of i insn) lands-somewhere acts)
+
+          next : IsNext t.index
+          next = elim goes-on [ inl e ↦ inl (next-suc i t.index (action_of insn) e) | inr e ↦ inr e ]
+
+          flows : (r : ℕ) → lean.live t.index r ≡ true → (written (action_of insn) ≡ Some r) ⊎ (lean.live s.index r ≡ true)
+          flows r live = elim (is_lean.flows t.index r goes-on live) [
+            | inl w ↦ inl w
+            | inr h ↦ inr (ap (λ n. lean.live n r) at_index ∙ h)
+          ]
+
+          after-inside : t.index < length code
+          after-inside =
+              let at_s : slice_get code s.index ≡ Some insn = ap (slice_get code) at_index ∙ here in
+              let low : s.index < length code = slice_get_within code s.index insn at_s in
+              let k : IsAt (length code) (insn_outcome insn s).1 =
+              insn_outcome-keeps code insn s ok at_s (ok.encoded i insn here) (record { index = low; state = state }) in
+              subst (λ (q : Step × State). q.1.index < length code) whole k.index
+
+          -- the next index has no branch that is joined, if this one has no compare
+          next-ready : (y : X86) → form_at lean i ≢ Compare → IsPrepared (form_at lean t.index) code t y
+          next-ready y other =
+              ready-if (form_at lean t.index) code t y (is_lean.kept t.index goes-on)
+              (λ jump e.
+              let n = insn-there code t.index after-inside in
+              absurd (other (joined-after lean code lives i t.index insn n.0 jump here n.1 next e).1))
+
+          moves-by : (v : State) (l : Lands call v x) → v.index ≡ t.index → IsSeen lean t v → IsPrepared (form_at lean t.index) code t l.end → Moves call t x
+          moves-by v l index then_same then_ready = record {
+            count = l.count;
+            on = elim l.on [ inl some ↦ inl some | inr far ↦ inr (omega (arith, far, index)) ];
+            few = l.few;
+            brief = l.brief;
+            end = l.end;
+            reaches = l.reaches;
+            next = next;
+            agrees = record { at = l.at ∙ ap offset index; seen = v; same = then_same; agrees = l.agrees; ready = then_ready };
+          }
+
+          -- the state that is seen moves too
+          whole-moves : form_at lean i ≡ Whole → Moves call t x
+          whole-moves form =
+              let reads : ReadsLive lean s.index (action_of insn) = subst (λ n. ReadsLive lean n (action_of insn)) (sym at_index) (fits-as Whole form) in
+              let m = moves-so lean s seen same state (action_of insn) (jump_of i insn) t reads flows acts in
+              let v : State = m.then_seen in
+              let moved : insn_outcome insn seen ≡ (moves.Moved, v) =
+              ap (λ n. action_outcome (action_of insn) (jump_of n insn) seen) seen_index ∙ m.moved in
+              let at_seen : slice_get code seen.index ≡ Some insn = ap (slice_get code) seen_index ∙ here in
+              let k : IsAt (length code) (insn_outcome insn seen).1 =
+              insn_outcome-keeps code insn seen ok at_seen (ok.encoded i insn here)
+              (record { index = slice_get_within code seen.index insn at_seen; state = same.state }) in
+              let v-state : IsState v = subst (λ (q : Step × State). IsState q.1) moved k.state in
+              let l = lands-on call seen v x same.state lent seen_index at_middle agrees form moved in
+              moves-by v l m.index (record { index = m.index; memory = m.memory; rights = m.rights; state = v-state; live = m.live })
+              (next-ready l.end (λ e. let wrong : Whole ≡ Compare = sym form ∙ e in absurd cc))
+
+          -- nothing is done
+          dead-moves : form_at lean i ≡ Dead → Moves call t x
+          dead-moves form =
+              let d : IsDeadWrite lean i insn = fits-as Dead form in
+              let w =
+              write-only lean s seen same state (action_of insn) (jump_of i insn) d.to t flows d.writes
+              (ap (λ n. lean.live (suc n) d.to) at_index ∙ d.dead) acts in
+              let v : State = record seen { index = t.index } in
+              let index : t.index ≡ suc i = w.0 ∙ ap suc at_index in
+              let none : insns ≡ [] = ap (λ f. form_code p f (action_of insn)) form in
+              let end : ending ≡ [] = ap (λ f. form_end p f (action_of insn) (jump_of i insn)) form in
+              let start : x.at ≡ x.at + 0 = omega arith in
+              let stays : EndsInAgreement p call [] x v =
+              record { end = x; runs = refl; at = start; agrees = agrees-index p call places seen t.index x agrees } in
+              let l =
+              (falls call seen v x same.state lent seen_index at_middle agrees (subst Straight (sym none) no-insn) end
+              (subst (λ c. EndsInAgreement p call c x v) (sym none) stays) index).0 in
+              moves-by v l refl (seen-on lean s seen same state t w.1)
+              (next-ready l.end (λ e. let wrong : Dead ≡ Compare = sym form ∙ e in absurd cc))
+
+          -- the flags of a compare
+          compare-moves : form_at lean i ≡ Compare → Moves call t x
+          compare-moves form =
+              let f = fits-as Compare form in
+              let jump : X86Cond = f.1.0 in
+              let j : AreJoined lean code i jump = f.1.2 in
+              let own : action_of insn ≡ actions.Compute j.to (Applied j.op j.left j.right) =
+              ap action_of (same_Some insn j.compare (sym here ∙ j.first)) ∙ j.compares in
+              let w =
+              write-only lean s seen same state (action_of insn) (jump_of i insn) j.to t flows (ap written own)
+              (ap (λ n. lean.live (suc n) j.to) at_index ∙ j.dead) acts in
+              let v : State = record seen { index = t.index } in
+              let index : t.index ≡ suc i = w.0 ∙ ap suc at_index in
+              let seq : insns ≡ ready_cmp_code p j.left j.right =
+              ap (λ g. form_code p g (action_of insn)) form ∙ ap (compare_flags p) own in
+              let end : ending ≡ [] = ap (λ g. form_end p g (action_of insn) (jump_of i insn)) form in
+              let placed : ReadsPlaced p (actions.Compute j.to (Applied j.op j.left j.right)) =
+              subst (ReadsPlaced p) own (of.reads i insn here (ap reads_operands form)) in
+              let fit : HasOperands (actions.Compute j.to (Applied j.op j.left j.right)) =
+              subst HasOperands own (action_of-operands insn (ok.encoded i insn here)) in
+              let d : DecidesJoined p call j.op j.left j.right j.cond jump x seen =
+              joins p call j.op j.left j.right j.cond jump seen x places placed.0 placed.1 fit.1 same.state lent agrees j.joined in
+              let comes : EndsInAgreement p call insns x v = record {
+                end = d.comes.end;
+                runs = subst (λ c. x86_straight c x ≡ Some d.comes.end) (sym seq) d.comes.runs;
+                at = d.comes.at ∙ ap (λ c. x.at + total_length c) (sym seq);
+                agrees = agrees-index p call places seen t.index d.comes.end d.comes.agrees;
+              } in
+              let all : Straight insns = subst Straight (sym seq) (flags-straight p places call j.left j.right fit.0 fit.1) in
+              let l = falls call seen v x same.state lent seen_index at_middle agrees all end comes index in
+              let flags_are : l.0.end.flags ≡ Some d.flags = l.1 ∙ d.set in
+              let reads : ReadsLive lean s.index (actions.Compute j.to (Applied j.op j.left j.right)) =
+              subst (λ n. ReadsLive lean n (actions.Compute j.to (Applied j.op j.left j.right))) (sym at_index) (subst (ReadsLive lean i) own f.0) in
+              let word : word_of j.op (read_reg seen.regs j.left) (rhs_word seen.regs j.right) ≡ read_reg t.regs j.to =
+              computed-live lean s seen same state j.to (Applied j.op j.left j.right) reads
+              ∙ sym (wrote-word s t j.to (Applied j.op j.left j.right) (jump_of i insn) state j.register
+              (ap (λ a. action_outcome a (jump_of i insn) s) (sym own) ∙ acts)) in
+              let decide : FlagsDecide jump code t l.0.end = record {
+                flags = d.flags;
+                set = flags_are;
+                says = λ other c r at is.
+                    let branch : other ≡ j.branch = same_Some other j.branch (sym at ∙ ap (slice_get code) index ∙ j.second) in
+                    let both : actions.Branching (When c r) ≡ actions.Branching (When j.cond j.to) = sym is ∙ ap action_of branch ∙ j.branches in
+                    d.says ∙ ap (takes j.cond) word ∙ same-branch c j.cond r j.to t.regs both;
+              } in
+              let joined : form_at lean t.index ≡ Joined jump = ap (form_at lean) index ∙ f.1.1 in
+              moves-by v l.0 refl (seen-on lean s seen same state t w.1) (subst (λ g. IsPrepared g code t l.0.end) (sym joined) decide)
+
+          -- the flags decide
+          joined-moves : (jump : X86Cond) → form_at lean i ≡ Joined jump → Moves call t x
+          joined-moves jump form =
+              let b = compared-before lean code lives i insn jump here form in
+              let j : AreJoined lean code b.before jump = b.joined in
+              let own : action_of insn ≡ actions.Branching (When j.cond j.to) =
+              ap action_of (same_Some insn j.branch (sym here ∙ ap (slice_get code) b.next ∙ j.second)) ∙ j.branches in
+              let to = branch-target (length code) i insn (When j.cond j.to) own (ok.inside i insn here) in
+              let d : FlagsDecide jump code s x = subst (λ g. IsPrepared g code s x) form ready in
+              let taken : Bool = takes j.cond (read_reg s.regs j.to) in
+              let says : cond_holds jump d.flags ≡ taken = d.says insn j.cond j.to (ap (slice_get code) at_index ∙ here) own in
+              let seq : insns ≡ [] = ap (λ g. form_code p g (action_of insn)) form in
+              let end : ending ≡ GoIf jump to.0 ∷ [] =
+              ap (λ g. form_end p g (action_of insn) (jump_of i insn)) form ∙ ap (joined_code jump) to.1 in
+              let at_after : x.at ≡ after = let m = at_middle in let z : total_length insns ≡ 0 = ap total_length seq in omega (arith, m, z) in
+              let g = jumps-if jump to.0 taken d.flags x agrees.machine at_after end to.2 d.set says in
+              let k : ℕ = cond taken to.0 (suc i) in
+              let is : t ≡ record s { index = k } =
+              ap (λ (q : Step × State). q.1) (sym acts) ∙ ap (λ a. (action_outcome a (jump_of i insn) s).1) own
+              ∙ ap (λ o. state_at s (cond taken o (Some (s.index + 1)))) to.1
+              ∙ branched s at_index to.0 taken in
+              let index : k ≡ t.index = ap (λ (q : State). q.index) (sym is) in
+              let v : State = record seen { index = t.index } in
+              let few = g.few in
+              let brief = g.brief in
+              let l : Lands call v x = record {
+                count = g.count;
+                on = inl g.some;
+                few = omega (arith, few);
+                brief = omega (arith, brief);
+                end = g.end;
+                reaches = g.reaches;
+                at = g.at ∙ ap offset index;
+                agrees = agrees-index p call places seen t.index g.end (agrees-same p call seen x g.end places agrees g.same);
+              } in
+              let only =
+              branch-only lean s seen same state (When j.cond j.to) k t
+              (λ r live. elim (flows r live) [ inl w ↦ inl (sym (ap written own) ∙ w) | inr h ↦ inr h ]) is in
+              moves-by v l refl (seen-on lean s seen same state t only)
+              (next-ready l.end (λ e. let wrong : Joined jump ≡ Compare = sym form ∙ e in absurd cc))
+
+          by-form : (f : Form) → form_at lean i ≡ f → Moves call t x
+          by-form Whole e = whole-moves e
+          by-form Dead e = dead-moves e
+          by-form Compare e = compare-moves e
+          by-form (Joined jump) e = joined-moves jump e
+          by-form Gone e = absurd (there e)
+
+          -- from the sequence to the next block
+          pub moves-on : Moves call t x
+          moves-on = by-form (form_at lean i) refl
+
+        -- ---- a return
+
+        -- as many steps as there are instructions end the call, with the word of register 0
+        pub record EndsCall : Type 0 where
+          pub count : ℕ
+          pub all : count ≡ length ending
+          pub end : X86
+          pub left : x86_run text count x ≡ (outcomes.Left, end)
+          pub returns : IsCallEnd call (slice_index s.regs 0) 0 s end
+
+        ends-as : (f : Form) → form_at lean i ≡ f → action_of insn ≡ actions.Return → EndsCall
+        ends-as Whole form is =
+            let e = ends-here call seen seen x same.state lent seen_index at_middle agrees form is in
+            let reads : ReadsLive lean s.index actions.Return =
+            subst (λ n. ReadsLive lean n actions.Return) (sym at_index) (subst (ReadsLive lean i) is (fits-as Whole form)) in
+            record { count = e.count; all = e.all; end = e.end; left = e.left; returns = end-seen lean call s seen same state reads e.end e.returns }
+        ends-as Dead form is =
+            let d : IsDeadWrite lean i insn = fits-as Dead form in
+            let wrong : None ≡ Some d.to = sym (ap written is) ∙ d.writes in absurd cc
+        ends-as Compare form is =
+            let j = (fits-as Compare form).1.2 in
+            let wrong : actions.Return ≡ actions.Compute j.to (Applied j.op j.left j.right) =
+            sym is ∙ ap action_of (same_Some insn j.compare (sym here ∙ j.first)) ∙ j.compares in absurd cc
+        ends-as (Joined jump) form is =
+            let b = compared-before lean code lives i insn jump here form in
+            let wrong : actions.Return ≡ actions.Branching (When b.joined.cond b.joined.to) =
+            sym is ∙ ap action_of (same_Some insn b.joined.branch (sym here ∙ ap (slice_get code) b.next ∙ b.joined.second)) ∙ b.joined.branches in
+            absurd cc
+        ends-as Gone form is = absurd (there form)
+
+        pub returns-so : (v : State) → insn_outcome insn s ≡ (moves.Returned, v) → EndsCall × (v ≡ s)
+        returns-so v e = let r = returned s (action_of insn) (jump_of s.index insn) v e in (ends-as (form_at lean i) refl r.0, r.1)

@@ -15,6 +15,7 @@ use Rattle.native_steps.specs.Straight.{total_length}
 use Rattle.native_code.specs.declared.insn.NativeInsn.{NativeInsn}
 use Rattle.native_code.specs.declared.insn.NativeInsn.TheVariants.{Plain, Go, GoIf}
 use Rattle.native_code.specs.Heads.{is_loop_head}
+use Rattle.native_code.specs.Lives.{Lean}
 use Rattle.native_code.specs.Blocks.{plain, block_at}
 use Rattle.native_code.specs.Layout.{native_length, code_length, padding, placed, placed_from, front_code, whole_code, offset_of, native_text}
 
@@ -114,15 +115,15 @@ first-stands text at i rest is h =
 
 -- ---- blocks in native code
 
-module _ (p : Places) (metered : Bool) (code : List Insn) where
+module _ (p : Places) (lean : Lean) (metered : Bool) (code : List Insn) where
   abbrev offset : ℕ → ℕ
-  offset = offset_of p metered code
+  offset = offset_of p lean metered code
 
   abbrev pub block : ℕ → List NativeInsn
-  block k = block_at p metered code k (slice_get code k)
+  block k = block_at p lean metered code k (slice_get code k)
 
   abbrev pub front : ℕ → List NativeInsn
-  front = front_code p metered code
+  front = front_code p lean metered code
 
   -- the padding from an offset to the block of an index, if that is a loop head
   abbrev pub pad : ℕ → ℕ → List NativeInsn
@@ -167,16 +168,16 @@ module _ (p : Places) (metered : Bool) (code : List Insn) where
   offset-next k = length-append-code (front k ++ block k) (gap k) ∙ ap (λ n. n + code_length (gap k)) (end-is k)
 
   abbrev text : List ℕ
-  text = native_text p metered code
+  text = native_text p lean metered code
 
   -- what stands in front of a list stands before it
-  pub part-lies : (before part rest : List NativeInsn) (at : ℕ) → whole_code p metered code ≡ before ++ (part ++ rest) → code_length before ≡ at →
+  pub part-lies : (before part rest : List NativeInsn) (at : ℕ) → whole_code p lean metered code ≡ before ++ (part ++ rest) → code_length before ≡ at →
       Lies text at (placed_from offset at part)
   part-lies before part rest at e place =
       let insns : List NativeInsn → List X86Insn = placed_from offset 0 in
       let zero_up : 0 + code_length before ≡ at = omega (arith, place) in
       let behind : List X86Insn = placed_from offset (at + code_length part) rest in
-      let split : insns (whole_code p metered code) ≡ insns before ++ (placed_from offset at part ++ behind) =
+      let split : insns (whole_code p lean metered code) ≡ insns before ++ (placed_from offset at part ++ behind) =
       ap insns e ∙ placed-append offset 0 before (part ++ rest)
       ∙ ap (λ n. insns before ++ placed_from offset n (part ++ rest)) zero_up
       ∙ ap (λ l. insns before ++ l) (placed-append offset at part rest) in
@@ -200,5 +201,5 @@ module _ (p : Places) (metered : Bool) (code : List Insn) where
       part-lies (front k ++ block k) (gap k) w.rest (end_of k) (w.whole ∙ sym (append_assoc (front k) (block k) (gap k ++ w.rest))) refl
 
   -- the entry stands at the beginning
-  pub entry-lies : (rest : List NativeInsn) (entry : List X86Insn) → whole_code p metered code ≡ plain entry ++ rest → Lies text 0 entry
+  pub entry-lies : (rest : List NativeInsn) (entry : List X86Insn) → whole_code p lean metered code ≡ plain entry ++ rest → Lies text 0 entry
   entry-lies rest entry e = lies-as text 0 (placed_from offset 0 (plain entry)) entry (placed-plain offset 0 entry) (part-lies [] (plain entry) rest 0 e refl)

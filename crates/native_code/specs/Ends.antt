@@ -11,6 +11,7 @@ use Rattle.x86_machine.specs.Machine.{X86, x86_run}
 use Rattle.native_steps.specs.Places.{Places}
 use Rattle.native_steps.specs.Agreement.{Call, IsLent}
 use Rattle.native_code.specs.Heads.{arrivals, fuel_of}
+use Rattle.native_code.specs.Lives.{Lean, IsLean}
 use Rattle.native_code.specs.Blocks.{RDX}
 use Rattle.native_code.specs.Layout.{native_insns, native_text}
 use Rattle.native_code.specs.Calls.{ArePlacesOf, IsCall, IsCallEnd}
@@ -20,10 +21,11 @@ abbrev pub IsAllowedRun : Outcome → Type 0
 IsAllowedRun (Blocked index kind addr) = ⊥
 IsAllowedRun _ = Unit {0}
 
--- A call that may be made: of code, for lawful places, with an area of its own, for an Alpha state from which no run is blocked.
-pub record IsSafeCall (p : Places) (code : List Insn) (call : Call) (s : State) (x : X86) : Type 0 where
+-- A call that may be made: of code, for lawful places and a right certificate, with an area of its own, for an Alpha state from which no run is blocked.
+pub record IsSafeCall (p : Places) (lean : Lean) (code : List Insn) (call : Call) (s : State) (x : X86) : Type 0 where
   pub is_code : IsCode code
-  pub places : ArePlacesOf p code
+  pub lives : IsLean lean code
+  pub places : ArePlacesOf p lean code
   pub state : IsState s
   pub lent : IsLent call s.rights
   pub begins : IsCall call s x
@@ -54,8 +56,8 @@ IsSafeEnd metered code call s (outcomes.Stuck, y) = ⊥
 -- A call that may be made is never stuck, whatever the number of steps: so it accesses only the area, and what the Alpha code may access. If it left, it
 -- returned as an Alpha run did, or ran out of fuel.
 abbrev pub SafeCalls : Type 0
-SafeCalls = (p : Places) (metered : Bool) (code : List Insn) (call : Call) (s : State) (x : X86) → IsSafeCall p code call s x
-    → (n : ℕ) → IsSafeEnd metered code call s (x86_run (native_text p metered code) n x)
+SafeCalls = (p : Places) (lean : Lean) (metered : Bool) (code : List Insn) (call : Call) (s : State) (x : X86) → IsSafeCall p lean code call s x
+    → (n : ℕ) → IsSafeEnd metered code call s (x86_run (native_text p lean metered code) n x)
 
 -- It left within so many steps.
 pub record LeavesWithin (text : List ℕ) (most : ℕ) (x : X86) : Type 0 where
@@ -66,15 +68,16 @@ pub record LeavesWithin (text : List ℕ) (most : ℕ) (x : X86) : Type 0 where
 
 -- It left in time: within as many steps as the text has instructions, for each unit of fuel and twice more. It ran out of fuel exactly if an Alpha run arrives
 -- at more loop heads than there are units.
-pub record EndsInTime (p : Places) (code : List Insn) (call : Call) (s : State) (x : X86) : Type 0 where
-  pub leaves : LeavesWithin (native_text p true code) ((call.fuel + 2) * length (native_insns p true code)) x
+pub record EndsInTime (p : Places) (lean : Lean) (code : List Insn) (call : Call) (s : State) (x : X86) : Type 0 where
+  pub leaves : LeavesWithin (native_text p lean true code) ((call.fuel + 2) * length (native_insns p lean true code)) x
   pub out : (slice_index leaves.end.regs RDX ≡ 1) ↔ ((n : ℕ) × (call.fuel < arrivals code n s))
 
 -- A call that may be made ends in time, if fuel is counted.
 abbrev pub EndingCalls : Type 0
-EndingCalls = (p : Places) (code : List Insn) (call : Call) (s : State) (x : X86) → IsSafeCall p code call s x → EndsInTime p code call s x
+EndingCalls = (p : Places) (lean : Lean) (code : List Insn) (call : Call) (s : State) (x : X86) → IsSafeCall p lean code call s x
+    → EndsInTime p lean code call s x
 
 -- If fuel isn't counted and an Alpha run returns, the call ends within ten steps for each of that run, and a hundred.
 abbrev pub ReturningCalls : Type 0
-ReturningCalls = (p : Places) (code : List Insn) (call : Call) (s t : State) (x : X86) (n word : ℕ) → IsSafeCall p code call s x
-    → run_of code n s ≡ (Returned word, t) → LeavesWithin (native_text p false code) (10 * n + 100) x
+ReturningCalls = (p : Places) (lean : Lean) (code : List Insn) (call : Call) (s t : State) (x : X86) (n word : ℕ) → IsSafeCall p lean code call s x
+    → run_of code n s ≡ (Returned word, t) → LeavesWithin (native_text p lean false code) (10 * n + 100) x

@@ -1,5 +1,6 @@
 -- Where blocks begin, how far jumps lead, and the bytes of native code.
-use Rattle.std.specs.Prelude.{◌≡◌, ℕ, zero, suc, ◌+◌, ◌-◌, ◌%◌, ◌^◌, ◌<◌, ◌≤◌, Bool, true, ◌==◌, if◌then◌else◌, List, [], ◌∷◌, ◌++◌, replicate, length, slice_get, ℤ, pos, ◌-ℤ◌}
+use Rattle.std.specs.Prelude.{◌≡◌, ℕ, zero, suc, ◌+◌, ◌-◌, ◌%◌, ◌^◌, ◌<◌, ◌≤◌, Bool, true, ◌==◌, if◌then◌else◌, List, [], ◌∷◌, ◌++◌, replicate, length}
+use Rattle.std.specs.Prelude.{slice_get, ℤ, pos, ◌-ℤ◌}
 use Rattle.std.specs.List.{All, flat_map}
 use Rattle.alpha_words.specs.declared.insn.Insn.{Insn}
 use Rattle.alpha_cfg.specs.Flow.{IsCode}
@@ -10,6 +11,7 @@ use Rattle.native_steps.specs.Places.{Places, ArePlaces}
 use Rattle.native_code.specs.declared.insn.NativeInsn.{NativeInsn}
 use Rattle.native_code.specs.declared.insn.NativeInsn.TheVariants.{Plain, Go, GoIf}
 use Rattle.native_code.specs.Heads.{is_loop_head}
+use Rattle.native_code.specs.Lives.{Lean}
 use Rattle.native_code.specs.Blocks.{plain, entry_code, block_at}
 
 -- the bytes that an instruction takes, wherever it leads
@@ -45,15 +47,15 @@ module _ (offset : ℕ → ℕ) where
   placed_from at [] = []
   placed_from at (i ∷ rest) = placed at i ∷ placed_from (at + native_length i) rest
 
-module _ (p : Places) (metered : Bool) (code : List Insn) where
+module _ (p : Places) (lean : Lean) (metered : Bool) (code : List Insn) where
   -- what stands in front of the block of an index, with padding if that is a loop head
   abbrev pub aligned_front : ℕ → List NativeInsn → List NativeInsn
   aligned_front k front = front ++ (if is_loop_head code k then padding k (code_length front) else [])
 
   -- the entry, and the blocks of the indices below k
   abbrev pub front_code : ℕ → List NativeInsn
-  front_code zero = aligned_front zero (plain (entry_code p))
-  front_code (suc k) = aligned_front (suc k) (front_code k ++ block_at p metered code k (slice_get code k))
+  front_code zero = aligned_front zero (plain (entry_code p lean))
+  front_code (suc k) = aligned_front (suc k) (front_code k ++ block_at p lean metered code k (slice_get code k))
 
   -- All of it: the block of index `length code` ends the runs that are out of fuel.
   abbrev pub whole_code : List NativeInsn
@@ -79,13 +81,14 @@ LeadsBelow n (GoIf cond k) = k < n
 
 -- Native code is short: each block begins, and the last one ends, below 2^30.
 abbrev pub SmallOffsets : Type 0
-SmallOffsets = (p : Places) (metered : Bool) (code : List Insn) → IsCode code → ArePlaces p → (k : ℕ) → k ≤ suc (length code)
-    → offset_of p metered code k < 2 ^ 30
+SmallOffsets = (p : Places) (lean : Lean) (metered : Bool) (code : List Insn) → IsCode code → ArePlaces p → (k : ℕ) → k ≤ suc (length code)
+    → offset_of p lean metered code k < 2 ^ 30
 
 -- The block of a loop head begins at a multiple of 32.
 abbrev pub AlignedHeads : Type 0
-AlignedHeads = (p : Places) (metered : Bool) (code : List Insn) (k : ℕ) → is_loop_head code k ≡ true → offset_of p metered code k % 32 ≡ 0
+AlignedHeads = (p : Places) (lean : Lean) (metered : Bool) (code : List Insn) (k : ℕ) → is_loop_head code k ≡ true → offset_of p lean metered code k % 32 ≡ 0
 
 -- Each jump leads to a block: that of an index of the code, or the one after the last.
 abbrev pub InnerTargets : Type 0
-InnerTargets = (p : Places) (metered : Bool) (code : List Insn) → IsCode code → All (LeadsBelow (suc (length code))) (whole_code p metered code)
+InnerTargets = (p : Places) (lean : Lean) (metered : Bool) (code : List Insn) → IsCode code
+    → All (LeadsBelow (suc (length code))) (whole_code p lean metered code)

@@ -1,4 +1,5 @@
 pub mod Heads
+pub mod Lives
 pub mod Blocks
 pub mod Layout
 pub mod Calls

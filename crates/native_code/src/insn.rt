@@ -30,3 +30,18 @@ impl NativeInsn {
         }
     }
 }
+
+/// What native code has of an instruction.
+#[derive(Clone, Copy, Debug, PartialEq, Eq)]
+pub enum Form {
+    /// All that it does.
+    Whole,
+    /// Nothing: the register that it writes is dead.
+    Dead,
+    /// The flags of a compare, on which the branch behind it goes.
+    Compare,
+    /// Only a jump: the branch behind such a compare, where this condition holds.
+    Joined(X86Cond),
+    /// Nothing: no run comes to it.
+    Gone,
+}

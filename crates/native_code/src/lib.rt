@@ -8,10 +8,13 @@
 //! - No instruction writes rsp. Registers that the caller wants back are saved in the area.
 //! - A loop head is an index that is the target of a jump from itself or a later index. Each arrival
 //!   at one takes a unit of fuel, if fuel is counted. Its block begins at a multiple of 32.
+//! - What writes only a register that is dead may be left out, and a compare and the branch behind it
+//!   may be one. A certificate says where.
 //!
 //! The definitions are in `specs/`:
 //!
 //! - `Heads`: loop heads, and how often a run arrives at one;
+//! - `Lives`: certificates of what is left out, and when they are right;
 //! - `Blocks`: the entry, the blocks and the end;
 //! - `Layout`: where they begin, how far jumps lead, and the bytes;
 //! - `Calls`: calls, and how they follow Alpha runs;
@@ -24,5 +27,5 @@
 mod insn;
 mod theorems;
 
-pub use insn::NativeInsn;
+pub use insn::{Form, NativeInsn};
 pub use theorems::{head_laws, laws, layout_laws};

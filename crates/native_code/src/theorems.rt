@@ -21,11 +21,12 @@ pub fn layout_laws()
     ensures aligned { AlignedHeads }
 {}
 
-/// Proves what calls of native code do.
+/// Proves what calls of native code do, for lawful places and a right certificate.
 ///
-/// Every call comes to the first block, in agreement with the Alpha state at index 0 (`called`). From
-/// there native code follows the Alpha run, if the fuel is enough for its arrivals at loop heads
-/// (`simulates`); if not, the call ends with 1 in rdx (`spends`).
+/// Every call comes to the first block, in agreement with the Alpha state at index 0 (`called`): the
+/// states are the same but for registers that are dead. From there native code follows the Alpha run,
+/// if the fuel is enough for its arrivals at loop heads (`simulates`); if not, the call ends with 1 in
+/// rdx (`spends`).
 ///
 /// If no Alpha run is blocked, the call is never stuck (`safe`). It ends in time by its fuel (`ends`),
 /// or, if fuel isn't counted, by the length of the Alpha run (`bounded`).

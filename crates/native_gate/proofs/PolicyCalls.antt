@@ -15,6 +15,7 @@ use Rattle.x86_machine.specs.declared.outcome.X86Outcome.TheVariants as outcomes
 use Rattle.x86_machine.specs.Machine.{X86, x86_run}
 use Rattle.native_steps.specs.Places.{Places}
 use Rattle.native_steps.specs.Agreement.{Call}
+use Rattle.native_code.specs.Lives.{Lean, IsLean}
 use Rattle.native_code.specs.Layout.{native_insns}
 use Rattle.native_code.specs.Calls.{ArePlacesOf}
 use Rattle.native_code.specs.Ends.{IsAllowedRun, IsSafeCall, IsSafeEnd, LeavesWithin, SafeCalls, EndingCalls, ReturningCalls}
@@ -44,10 +45,11 @@ has-returned (Blocked index kind addr, t) h = absurd h
 
 -- ---- a call
 
-safe-call : (policy : PolicyView) (code : List Insn) (p : Places) (call : Call) (s : State) (x : X86) → IsSafe code policy.pre policy.post
-    → IsCode code → ArePlacesOf p code → IsPolicyCall policy call s x → IsSafeCall p code call s x
-safe-call policy code p call s x safe is lawful may = record {
+safe-call : (policy : PolicyView) (code : List Insn) (p : Places) (lean : Lean) (call : Call) (s : State) (x : X86) → IsSafe code policy.pre policy.post
+    → IsCode code → IsLean lean code → ArePlacesOf p lean code → IsPolicyCall policy call s x → IsSafeCall p lean code call s x
+safe-call policy code p lean call s x safe is lives lawful may = record {
   is_code = is;
+  lives = lives;
   places = lawful;
   state = may.state;
   lent = may.lent;
@@ -71,23 +73,23 @@ good-end policy metered code call s x (outcomes.Stuck, y) safe may h = absurd h
 pub safe-policy-calls : SafeCalls → AcceptedSafe → SafePolicyCalls
 safe-policy-calls calls accepted policy bytes text metered call s x n is a t may =
     let safe = accepted policy bytes a.contents a.code a.marks is a.accepts in
-    let ready = safe-call policy a.code t.places call s x safe a.accepts.passes.has.code t.lawful may in
+    let ready = safe-call policy a.code t.places t.lean call s x safe a.accepts.passes.has.code t.lives t.lawful may in
     subst (λ b. IsGoodNativeEnd policy metered a.code call s (x86_run b n x)) (sym t.text)
-    (good-end policy metered a.code call s x _ safe may (calls t.places metered a.code call s x ready n))
+    (good-end policy metered a.code call s x _ safe may (calls t.places t.lean metered a.code call s x ready n))
 
 pub ending-policy-calls : EndingCalls → AcceptedSafe → EndingPolicyCalls
 ending-policy-calls calls accepted policy bytes text call s x is a t may =
     let safe = accepted policy bytes a.contents a.code a.marks is a.accepts in
-    let ready = safe-call policy a.code t.places call s x safe a.accepts.passes.has.code t.lawful may in
-    subst (λ b. LeavesWithin b ((call.fuel + 2) * length (native_insns t.places true a.code)) x) (sym t.text)
-    (calls t.places a.code call s x ready).leaves
+    let ready = safe-call policy a.code t.places t.lean call s x safe a.accepts.passes.has.code t.lives t.lawful may in
+    subst (λ b. LeavesWithin b ((call.fuel + 2) * length (native_insns t.places t.lean true a.code)) x) (sym t.text)
+    (calls t.places t.lean a.code call s x ready).leaves
 
 pub bounded-policy-calls : ReturningCalls → AcceptedSafe → AcceptedReturns → BoundedPolicyCalls
 bounded-policy-calls calls accepted returns policy bytes text bound call s x is a most t may =
     let safe = accepted policy bytes a.contents a.code a.marks is a.accepts in
-    let ready = safe-call policy a.code t.places call s x safe a.accepts.passes.has.code t.lawful may in
+    let ready = safe-call policy a.code t.places t.lean call s x safe a.accepts.passes.has.code t.lives t.lawful may in
     let enough : bound ≤ bound = omega arith in
     let ended = has-returned (run_of a.code bound s)
     (returns policy bytes a.contents a.code a.marks is a.accepts bound most s may.state may.begins.start may.pre bound enough) in
     subst (λ b. LeavesWithin b (10 * bound + 100) x) (sym t.text)
-    (calls t.places a.code call s ended.state x bound ended.word ready ended.is)
+    (calls t.places t.lean a.code call s ended.state x bound ended.word ready ended.is)

@@ -44,7 +44,7 @@ abbrev pub EndingPolicyCalls : Type 0
 EndingPolicyCalls =
     (policy : PolicyView) (bytes text : List ℕ) (call : Call) (s : State) (x : X86) → IsPolicy policy → (a : IsAccepted policy bytes)
     → (t : IsTranslation true a.code text) → IsPolicyCall policy call s x
-    → LeavesWithin text ((call.fuel + 2) * length (native_insns t.places true a.code)) x
+    → LeavesWithin text ((call.fuel + 2) * length (native_insns t.places t.lean true a.code)) x
 
 -- Without fuel, if the container bounds the steps, it ends within ten steps for each of the bound, and a hundred.
 abbrev pub BoundedPolicyCalls : Type 0

@@ -165,13 +165,14 @@ module _ (p : Places) (call : Call) (places : ArePlaces p) (s : State) (x : X86)
     -- ---- compares
 
     -- the flags say how the words compare
-    record Compared (code : List X86Insn) (a b : ℕ) (u : X86) : Type 0 where
-      end : X86
-      runs : Runs code u end
-      same : SameBut u end
-      set : end.flags ≡ Some (alu_flags alu.Cmp a b)
+    pub record Compared (code : List X86Insn) (a b : ℕ) (u : X86) : Type 0 where
+      pub end : X86
+      pub runs : Runs code u end
+      pub same : SameBut u end
+      pub set : end.flags ≡ Some (alu_flags alu.Cmp a b)
 
-    compared : (left : ℕ) (right : Rhs) (u : X86) → Agrees p call s u → slice_index u.regs (source p left RAX) ≡ val left → RhsIsPlaced p right → IsRhs right →
+    pub compared : (left : ℕ) (right : Rhs) (u : X86) → Agrees p call s u → slice_index u.regs (source p left RAX) ≡ val left → RhsIsPlaced p right →
+        IsRhs right →
         Compared (cmp_code p left right) (val left) (rhs_word s.regs right) u
     compared left (Lit n) u u-agrees first there small =
         let q : ℕ = source p left RAX in
@@ -210,7 +211,7 @@ module _ (p : Places) (call : Call) (places : ArePlaces p) (s : State) (x : X86)
         (after-code work (cmp_code p left right) last b.end k.end (flag_of t) k.runs (to-same work b.end k.end k.same)
         (set-gives work c k.end (alu_flags alu.Cmp (val left) (rhs_word s.regs right)) t k.same.machine work-low k.set e))
 
-    cmp : (left : ℕ) (right : Rhs) → IsRhs right → AfterCmp (val left) (rhs_word s.regs right)
+    pub cmp : (left : ℕ) (right : Rhs) → IsRhs right → AfterCmp (val left) (rhs_word s.regs right)
     cmp left right small = after_cmp (val left) (rhs_word s.regs right) (below left) (rhs-below p call places s x state lent agrees right small)
 
     -- ---- a count in rcx

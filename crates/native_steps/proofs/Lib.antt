@@ -6,3 +6,4 @@ pub mod Instructions
 pub mod Assigning
 pub mod Encodable
 pub mod Computing
+pub mod Joining

@@ -2,6 +2,7 @@
 
 ghost use Rattle.std.specs.Prelude.{◌≡◌, ◌<◌, ◌++◌, ◌∷◌, [], OnOk};
 ghost use Rattle.alpha_cfg.specs.Actions as actions;
+ghost use Rattle.native_steps.specs.Compares as compares;
 ghost use Rattle.native_steps.specs.Places as places;
 ghost use Rattle.native_steps.specs.Sequences as sequences;
 
@@ -217,6 +218,20 @@ impl Places {
             }
             Rhs::Reg(r) => self.push_onto(out, AluOp::Cmp, to, r),
         }
+    }
+
+    /// Appends what leaves the flags of a compare. Errors: out of memory.
+    pub fn append_compare(
+        &self,
+        out: &mut Vec<X86Insn>,
+        left: Reg,
+        right: Rhs,
+    ) -> Result<(), AllocError>
+        ensures { OnOk result (out.new.items
+            ≡ out.old.items ++ compares.ready_cmp_code self.now left right) }
+    {
+        self.push_ready(out, left, rax())?;
+        self.push_cmp(out, left, right)
     }
 
     /// Appends the flag of a condition on two operands. Errors: out of memory.

@@ -12,6 +12,8 @@ use Rattle.native_steps.specs.declared.places.Place.{Place}
 use Rattle.native_steps.specs.declared.places.Place.TheVariants.{Nowhere}
 use Rattle.native_steps.specs.Places.{Places, ArePlaces, IsSomewhere, is_somewhere, place_at}
 use Rattle.native_steps.specs.Sequences.{ReadsPlaced, RhsIsPlaced}
+use Rattle.native_code.specs.Lives.{Lean, form_at}
+use Rattle.native_code.specs.Calls.{reads_operands}
 use Rattle.native_translator.specs.Inside.Parts.{KeepsPlaces}
 
 -- ---- one register gets a place
@@ -54,15 +56,17 @@ reads-kept p q actions.Return kept h = kept 0 h
 
 -- ---- the instructions below an index
 
--- the registers that they read are placed
-abbrev pub PlacedBelow : Places → List Insn → ℕ → Type 0
-PlacedBelow p code n = (i : ℕ) (insn : Insn) → i < n → slice_get code i ≡ Some insn → ReadsPlaced p (action_of insn)
+-- the registers that native code reads of them are placed
+abbrev pub PlacedBelow : Places → Lean → List Insn → ℕ → Type 0
+PlacedBelow p lean code n =
+    (i : ℕ) (insn : Insn) → i < n → slice_get code i ≡ Some insn → reads_operands (form_at lean i) ≡ true → ReadsPlaced p (action_of insn)
 
-pub placed-more : (p q : Places) (code : List Insn) (n : ℕ) (insn : Insn) → PlacedBelow p code n → slice_get code n ≡ Some insn
-    → KeepsPlaces p q → ReadsPlaced q (action_of insn) → PlacedBelow q code (suc n)
-placed-more p q code n insn before here kept reads i other low at = elim (cases_eq i n) [
+pub placed-more : (p q : Places) (lean : Lean) (code : List Insn) (n : ℕ) (insn : Insn) → PlacedBelow p lean code n → slice_get code n ≡ Some insn
+    → KeepsPlaces p q → (reads_operands (form_at lean n) ≡ true → ReadsPlaced q (action_of insn)) → PlacedBelow q lean code (suc n)
+placed-more p q lean code n insn before here kept reads i other low at form = elim (cases_eq i n) [
   | inl same ↦
       let equal : Some insn ≡ Some other = sym here ∙ ap (slice_get code) (sym same) ∙ at in
-      subst (λ x. ReadsPlaced q (action_of x)) (same_Some insn other equal) reads
-  | inr less ↦ reads-kept p q (action_of other) kept (before i other (omega (arith, low, less)) at)
+      subst (λ x. ReadsPlaced q (action_of x)) (same_Some insn other equal)
+      (reads (ap (λ k. reads_operands (form_at lean k)) (sym same) ∙ form))
+  | inr less ↦ reads-kept p q (action_of other) kept (before i other (omega (arith, low, less)) at form)
 ]

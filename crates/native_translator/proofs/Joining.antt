@@ -5,9 +5,10 @@ use Rattle.std.proofs.lemmas.Option.{slice_get_past}
 use Rattle.alpha_words.specs.declared.insn.Insn.{Insn}
 use Rattle.native_steps.specs.Places.{Places}
 use Rattle.native_code.specs.declared.insn.NativeInsn.{NativeInsn}
+use Rattle.native_code.specs.Lives.{Lean}
 use Rattle.native_code.specs.Blocks.{plain, fuel_code, block_at, spent_code}
 use Rattle.native_translator.specs.Inside.Parts.{sequence_at, end_at}
-use Rattle.native_translator.proofs.Scanning.{missing}
+use Rattle.native_lives.proofs.Scanning.{missing}
 
 module _ {X : Type 0} where
   -- the last of so many parts is appended to a list that the others follow
@@ -34,20 +35,20 @@ module _ {X : Type 0} where
       append_assoc a (b ++ (c ++ d)) rest ∙ ap (λ l. a ++ l) two in
       whole ∙ ap (λ l. o ++ l) one
 
-module _ (p : Places) (metered : Bool) (code : List Insn) where
+module _ (p : Places) (lean : Lean) (metered : Bool) (code : List Insn) where
   -- the parts of a block
   block-of-parts : (i : ℕ) (o : Option Insn) → slice_get code i ≡ o → i < length code
-      → fuel_code p metered code i ++ (sequence_at p o ++ end_at p i o) ≡ block_at p metered code i o
+      → fuel_code p lean metered code i ++ (sequence_at p lean i o ++ end_at p lean i o) ≡ block_at p lean metered code i o
   block-of-parts i None here low = absurd (missing code i low here)
   block-of-parts i (Some insn) here low = refl
 
-  pub block-made : (i : ℕ) (u v w : List NativeInsn) → i < length code → u ≡ [] ++ fuel_code p metered code i
-      → v ≡ u ++ sequence_at p (slice_get code i) → w ≡ v ++ end_at p i (slice_get code i)
-      → w ≡ block_at p metered code i (slice_get code i)
+  pub block-made : (i : ℕ) (u v w : List NativeInsn) → i < length code → u ≡ [] ++ fuel_code p lean metered code i
+      → v ≡ u ++ sequence_at p lean i (slice_get code i) → w ≡ v ++ end_at p lean i (slice_get code i)
+      → w ≡ block_at p lean metered code i (slice_get code i)
   block-made i u v w low first second third =
-      three-parts [] (fuel_code p metered code i) (sequence_at p (slice_get code i)) (end_at p i (slice_get code i)) u v w first second third
+      three-parts [] (fuel_code p lean metered code i) (sequence_at p lean i (slice_get code i)) (end_at p lean i (slice_get code i)) u v w first second third
       ∙ block-of-parts i (slice_get code i) refl low
 
   -- the block after the last
-  pub last-made : (i : ℕ) → length code ≤ i → plain (spent_code p) ≡ block_at p metered code i (slice_get code i)
-  last-made i past = ap (block_at p metered code i) (sym (slice_get_past code i past))
+  pub last-made : (i : ℕ) → length code ≤ i → plain (spent_code p) ≡ block_at p lean metered code i (slice_get code i)
+  last-made i past = ap (block_at p lean metered code i) (sym (slice_get_past code i past))

@@ -1,5 +1,4 @@
 mod Choices
-mod Scanning
 mod Joining
 mod Placing
 mod Translated

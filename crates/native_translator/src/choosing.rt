@@ -4,11 +4,15 @@ ghost use Rattle.std.specs.Prelude.{◌≡◌, ◌<◌, set, true, if◌then◌e
 ghost use Rattle.alpha_cfg.specs.Actions.{action_of};
 ghost use Rattle.native_steps.specs.Places.{IsSomewhere, is_somewhere, place_at};
 ghost use Rattle.native_steps.specs.Sequences.{ReadsPlaced, RhsIsPlaced};
+ghost use Rattle.native_code.specs.Calls as calls;
 ghost use Rattle.native_code.specs.Calls.{ArePlacesOf};
+ghost use Rattle.native_lives.specs.Certificates.{lean_of};
 ghost use Rattle.native_translator.specs.Inside.Parts.{KeepsPlaces};
 
 use alpha_cfg::Code;
 use alpha_words::{Insn, Reg, Rhs};
+use native_code::Form;
+use native_lives::Certificate;
 use native_steps::{Place, Places, is_callee_saved};
 use x86_words::X86Reg;
 
@@ -95,13 +99,31 @@ fn place_reads(places: &mut Places, insn: Insn)
     }
 }
 
-/// Returns lawful places, one for each register that the code reads.
-pub(crate) fn choose(code: &Code) -> Places
-    ensures { ArePlacesOf result code.now }
+/// Checks whether native code reads what an instruction of this form reads.
+fn reads_operands(form: Form) -> bool
+    ensures { result ≡ calls.reads_operands form }
+{
+    matches!(form, Form::Whole | Form::Compare)
+}
+
+/// Gives the registers that native code reads of an instruction of this form places.
+fn place_form_reads(places: &mut Places, form: Form, insn: Insn)
+    ensures placed { calls.reads_operands form ≡ true
+        → ReadsPlaced places.new (action_of insn) }
+    ensures kept { KeepsPlaces places.old places.new }
+{
+    if reads_operands(form) {
+        place_reads(places, insn);
+    }
+}
+
+/// Returns lawful places, one for each register that native code reads.
+pub(crate) fn choose(code: &Code, lives: &Certificate) -> Places
+    ensures { ArePlacesOf result (lean_of lives.now.forms.items lives.now.live.items) code.now }
 {
     let mut places = Places::nowhere();
     for i in 0..code.count() {
-        place_reads(&mut places, code.insn(i));
+        place_form_reads(&mut places, lives.form(i), code.insn(i));
     }
     places.laws();
     places

@@ -2,7 +2,9 @@
 
 ghost use Rattle.std.specs.Prelude.{◌≡◌, ◌++◌, ◌∷◌, [], ◌<◌, OnOk};
 ghost use Rattle.native_code.specs.Blocks as blocks;
+ghost use Rattle.native_lives.specs.Certificates.{lean_of};
 ghost use Rattle.native_steps.specs.Places as places;
+ghost use Rattle.native_translator.specs.Inside.Parts as parts;
 
 use crate::plan::Plan;
 use alpha_words::Reg;
@@ -130,22 +132,26 @@ fn first_moves() -> [X86Insn; 3]
 }
 
 impl Plan {
-    /// Appends what brings a register's word into the place of an Alpha register, whose old word is
-    /// saved. Errors: out of memory.
+    /// Appends what saves the old word of an Alpha register's place, and brings a register's word there
+    /// if the Alpha register is live. Errors: out of memory.
     fn push_enter(&self, out: &mut Vec<X86Insn>, r: Reg, from: X86Reg) -> Result<(), AllocError>
         requires { r < 31 }
         ensures { OnOk result (out.new.items
-            ≡ out.old.items ++ blocks.enter self.now.places r from) }
+            ≡ out.old.items ++ blocks.enter self.now.places
+            (lean_of self.now.lives.forms.items self.now.lives.live.items) r from) }
     {
         push_save(out, self.places.place(r), r)?;
-        self.places.keep(out, r, from)?;
+        if self.lives.is_live(0, r.number()) {
+            self.places.keep(out, r, from)?;
+        }
         Ok(())
     }
 
     /// Appends what sets the place of a register without an argument to rax. Errors: out of memory.
     fn push_clear(&self, out: &mut Vec<X86Insn>, r: Reg) -> Result<(), AllocError>
         requires { r < 31 }
-        ensures { OnOk result (out.new.items ≡ out.old.items ++ blocks.clear self.now.places r) }
+        ensures { OnOk result (out.new.items ≡ out.old.items ++ blocks.clear self.now.places
+            (lean_of self.now.lives.forms.items self.now.lives.live.items) r) }
     {
         if is_argument(r) {
             return Ok(());
@@ -157,8 +163,8 @@ impl Plan {
     fn push_arguments(&self, out: &mut Vec<X86Insn>) -> Result<(), AllocError>
         ensures { OnOk result (out.new.items
             ≡ out.old.items ++ (X86Insn.Mov 11 1 ∷ X86Insn.Mov 0 7 ∷ X86Insn.Mov 1 6
-            ∷ (blocks.enter self.now.places 18 2
-            ++ (blocks.enter self.now.places 16 0 ++ blocks.enter self.now.places 17 1)))) }
+            ∷ parts.arguments_code self.now.places
+            (lean_of self.now.lives.forms.items self.now.lives.live.items))) }
     {
         out.extend_from_slice(&first_moves())?;
         self.push_enter(out, Reg::new(18), rdx())?;
@@ -171,7 +177,8 @@ impl Plan {
     /// memory.
     fn push_clears(&self, out: &mut Vec<X86Insn>) -> Result<(), AllocError>
         ensures { OnOk result (out.new.items
-            ≡ out.old.items ++ blocks.for_registers (blocks.clear self.now.places) 31) }
+            ≡ out.old.items ++ blocks.for_registers (blocks.clear self.now.places
+            (lean_of self.now.lives.forms.items self.now.lives.live.items)) 31) }
     {
         for r in 0..31 {
             self.push_clear(out, Reg::new(r))?;
@@ -181,7 +188,8 @@ impl Plan {
 
     /// Appends the entry. Errors: out of memory.
     pub(crate) fn push_entry(&self, out: &mut Vec<X86Insn>) -> Result<(), AllocError>
-        ensures { OnOk result (out.new.items ≡ out.old.items ++ blocks.entry_code self.now.places) }
+        ensures { OnOk result (out.new.items ≡ out.old.items ++ blocks.entry_code self.now.places
+            (lean_of self.now.lives.forms.items self.now.lives.live.items)) }
     {
         self.places.laws();
         self.push_arguments(out)?;

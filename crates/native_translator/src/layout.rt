@@ -6,6 +6,7 @@ ghost use Rattle.std.specs.List.{flat_map};
 ghost use Rattle.x86_words.specs.Encoding.{bytes_of};
 ghost use Rattle.native_code.specs.Heads as heads;
 ghost use Rattle.native_code.specs.Layout as layouts;
+ghost use Rattle.native_lives.specs.Certificates.{lean_of};
 ghost use Rattle.native_translator.specs.Inside.Parts.{AreBlocks, FitsLayout};
 
 use crate::heads::is_loop_head;
@@ -92,8 +93,9 @@ fn padding(alloc: Global, code: &Code, i: u32, at: u32) -> Result<Vec<NativeInsn
 impl Plan {
     /// Returns the entry and all blocks. Errors: out of memory.
     pub(crate) fn layout(&self, alloc: Global, code: &Code) -> Result<Layout, AllocError>
-        ensures { IfOk result (λ l. AreBlocks self.now.places self.now.metered code.now
-            l.insns.items l.starts.items) }
+        ensures { IfOk result (λ l. AreBlocks self.now.places
+            (lean_of self.now.lives.forms.items self.now.lives.live.items)
+            self.now.metered code.now l.insns.items l.starts.items) }
     {
         let count = code.count();
         layout_laws();

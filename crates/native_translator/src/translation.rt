@@ -7,6 +7,7 @@ use crate::choosing::choose;
 use crate::plan::Plan;
 use alpha_cfg::Code;
 use native_code::layout_laws;
+use native_lives::right_certificate;
 use std::alloc::{AllocError, Global};
 
 /// Translates code into the bytes of a function, fewer than 2^30. If `metered` is true, it counts
@@ -17,8 +18,10 @@ pub fn translate(alloc: Global, code: &Code, metered: bool) -> Result<Vec<u8>, A
 {
     let _count = code.count(); // tells the prover that it is code
     layout_laws();
+    let lives = right_certificate(alloc, code)?;
     let plan = Plan {
-        places: choose(code),
+        places: choose(code, &lives),
+        lives,
         metered,
     };
     plan.places.laws();

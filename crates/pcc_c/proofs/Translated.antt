@@ -36,7 +36,7 @@ ends-by : (policy : PolicyView) (bytes text : List ℕ) (a : IsAccepted policy b
     (bound : Option ℕ) → a.contents.bound ≡ bound
     → (t : IsTranslation (is_metered bound) a.code text) → EndingPolicyCalls → BoundedPolicyCalls
     → IsPolicy policy → (call : Call) (s : State) (x : X86) → IsPolicyCall policy call s x
-    → LeavesWithin text (most_steps bound (length (native_insns t.places (is_metered bound) a.code)) call.fuel) x
+    → LeavesWithin text (most_steps bound (length (native_insns t.places t.lean (is_metered bound) a.code)) call.fuel) x
 ends-by policy bytes text a None e t ending bounded is call s x may =
     ending policy bytes text call s x is a t may
 ends-by policy bytes text a (Some b) e t ending bounded is call s x may =

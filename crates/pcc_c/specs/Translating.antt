@@ -56,6 +56,6 @@ pub record IsSafeNative (given bytes text : List ℕ) : Type 0 where
       → IsGoodNativeEnd under.policy (is_metered n.accepted.contents.bound) n.accepted.code call s
       (x86_run text steps x)
   pub ends : let n = under.native in let bound = n.accepted.contents.bound in
-      let insns = native_insns n.translated.places (is_metered bound) n.accepted.code in
+      let insns = native_insns n.translated.places n.translated.lean (is_metered bound) n.accepted.code in
       (call : Call) (s : State) (x : X86) → IsPolicyCall under.policy call s x
       → LeavesWithin text (most_steps bound (length insns) call.fuel) x

@@ -4,4 +4,4 @@ use Rattle.native_code.proofs.theorems.layout_laws.Goals as goal
 
 pub returns : goal.returns
 returns c =
-    record { small = λ p metered code ok places k h. offset-small p places metered code k ok h; targets = inner-targets; aligned = heads-aligned }
+    record { small = λ p lean metered code ok places k h. offset-small p places lean metered code k ok h; targets = inner-targets; aligned = heads-aligned }

@@ -4,7 +4,7 @@ use Rattle.std.proofs.Common.{refl, ap, ◌∙◌, arith}
 use Rattle.std.proofs.lemmas.Option.{same_Some}
 use Rattle.alpha_words.specs.declared.insn.Insn.{Insn}
 use Rattle.native_code.specs.Heads.{jump_to}
-use Rattle.native_translator.specs.Inside.Parts.{jumps_at}
+use Rattle.native_lives.specs.Inside.Jumps.{jumps_at}
 
 -- the instruction at an index stands in front of those behind it
 dropped : (code : List Insn) (i : ℕ) (insn : Insn) → slice_get code i ≡ Some insn → drop i code ≡ insn ∷ drop (suc i) code

@@ -1,7 +1,7 @@
 use Rattle.std.proofs.Common.{◌≡◌, ◌<◌, suc, ◌+◌, drop, length, sym, ap, ◌∙◌, arith}
 use Rattle.native_code.specs.Heads.{jump_to}
-use Rattle.native_translator.proofs.Scanning.{scan-on, scan-found}
-use Rattle.native_translator.proofs.heads.is_loop_head.Goals as goal
+use Rattle.native_lives.proofs.Scanning.{scan-on, scan-found}
+use Rattle.native_lives.proofs.targets.is_jumped_to.Goals as goal
 
 pub returns-then-jumps_to : goal.returns-then-jumps_to
 returns-then-jumps_to c =
