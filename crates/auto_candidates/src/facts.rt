@@ -18,6 +18,8 @@ pub struct Facts {
     pub(crate) lives: Vec<u32>,
     // the registers that are compared or stepped
     pub(crate) ordered: u32,
+    // the registers that one of these is copied to
+    copies: u32,
     // from the least
     pub(crate) constants: Vec<u64>,
 }
@@ -107,6 +109,26 @@ fn ordered_by(insn: &Insn) -> u32 {
     }
 }
 
+/// Whether the instruction copies a register, as `bis` and `lda` by 0 do.
+fn is_copy(insn: &Insn) -> bool {
+    match insn {
+        Insn::Oper { op, .. } => matches!(op, Op::Bis),
+        Insn::Lda { disp, .. } => *disp == 0,
+        _ => false,
+    }
+}
+
+/// The registers that the code copies one of these to.
+fn copies_of(insns: &[Insn], ordered: u32) -> u32 {
+    let mut copies = 0;
+    for insn in insns {
+        if is_copy(insn) && reads(insn) & (ordered | copies) != 0 {
+            copies |= writes(insn);
+        }
+    }
+    copies
+}
+
 /// The constant of the instruction.
 fn constant_of(insn: &Insn) -> Option<u64> {
     match insn {
@@ -172,11 +194,17 @@ pub fn facts_of(alloc: Global, insns: &[Insn]) -> Result<Facts, AllocError> {
     Ok(Facts {
         lives,
         ordered,
+        copies: copies_of(insns, ordered),
         constants,
     })
 }
 
 impl Facts {
+    /// Has registers compared too that one which is compared or stepped is copied to.
+    pub fn widen(&mut self) {
+        self.ordered |= self.copies;
+    }
+
     /// Returns the registers whose values may still be used at the index.
     pub(crate) fn live_at(&self, index: u32) -> u32 {
         set_at(self.lives.as_slice(), u64::from(index))

@@ -6,9 +6,11 @@
 ghost use Rattle.std.specs.Prelude.{IfOk, OnOk};
 ghost use Rattle.term_table.specs.Table.{IsKnown, Extends};
 ghost use Rattle.prover_ids.specs.Hypotheses.{AreKnownHyps};
-ghost use Rattle.prover_goals.specs.Search.{IsSearch, IsContext, IsAfter};
+ghost use Rattle.prover_goals.specs.Search.{IsSearch, IsContext};
 
 use auto_candidates::known;
+use auto_facts::add_derived;
+use auto_proofs::proof_of;
 use hereditary_subst::Exhausted;
 use prover_conditions::proof_by_all_means;
 use prover_goals::{Context, Search};
@@ -46,14 +48,76 @@ fn hypotheses_of(table: &mut Table, forms: &[Id]) -> Result<Hypotheses, Exhauste
     Ok(hyps)
 }
 
-/// Returns the context of a part under these formulas.
-pub(crate) fn context_of(table: &mut Table, forms: &[Id]) -> Result<Context, Exhausted>
+/// Which goals count as easy.
+#[derive(Clone, Copy)]
+pub(crate) struct Class {
+    // whether steps are counted
+    pub(crate) counted: bool,
+    // whether it is the class of `auto_proofs`, not that of `prove`
+    pub(crate) wider: bool,
+}
+
+/// The hypotheses of a part with these formulas, and in the wider class what follows from each.
+#[tactic(auto, using(prover_goals::proofs::Kept::rows))]
+fn hypotheses_in(
+    table: &mut Table,
+    search: &mut Search,
+    class: Class,
+    forms: &[Id],
+) -> Result<Hypotheses, Exhausted>
+    requires search { IsSearch table.old search.old }
+    ensures known { IfOk result (AreKnownHyps table.new) }
+    ensures extends { Extends table.old table.new }
+    ensures search { OnOk result (IsSearch table.new search.new) }
+{
+    let mut hyps = hypotheses_of(table, forms)?;
+    if !class.wider {
+        return Ok(hyps);
+    }
+    add_derived(table, search, &mut hyps, 0)?;
+    Ok(hyps)
+}
+
+/// Returns the context of a part under these formulas, and in the wider class under what follows
+/// from each.
+#[tactic(auto, using(prover_goals::proofs::Kept::rows))]
+pub(crate) fn context_of(
+    table: &mut Table,
+    search: &mut Search,
+    class: Class,
+    forms: &[Id],
+) -> Result<Context, Exhausted>
+    requires search { IsSearch table.old search.old }
     ensures context { IfOk result (IsContext table.new) }
     ensures extends { Extends table.old table.new }
+    ensures search { OnOk result (IsSearch table.new search.new) }
 {
-    let hyps = hypotheses_of(table, forms)?;
+    let hyps = hypotheses_in(table, search, class, forms)?;
     let context = Context::new(table, PART_BINDERS, hyps)?;
     Ok(context)
+}
+
+/// The proof of the goal in the context, if it is easy.
+#[tactic(auto, using(prover_goals::proofs::Kept::rows))]
+fn easy_proof(
+    table: &mut Table,
+    search: &mut Search,
+    context: &mut Context,
+    class: Class,
+    goal: Id,
+) -> Result<Option<Id>, Exhausted>
+    requires goal { IsKnown table.old goal }
+    requires search { IsSearch table.old search.old }
+    requires context { IsContext table.old context.old }
+    ensures extends { Extends table.old table.new }
+    ensures search { OnOk result (IsSearch table.new search.new) }
+    ensures context { OnOk result (IsContext table.new context.new) }
+{
+    if class.wider {
+        return proof_of(table, search, context, class.counted, goal);
+    }
+    let proof = proof_by_all_means(table, search, context, class.counted, goal)?;
+    Ok(proof)
 }
 
 /// Returns whether the goal is easy in the context.
@@ -62,18 +126,19 @@ pub(crate) fn is_easy(
     table: &mut Table,
     search: &mut Search,
     context: &mut Context,
-    counted: bool,
+    class: Class,
     goal: Id,
 ) -> Result<bool, Exhausted>
     requires goal { IsKnown table.old goal }
     requires search { IsSearch table.old search.old }
     requires context { IsContext table.old context.old }
     ensures extends { Extends table.old table.new }
-    ensures after { OnOk result (IsAfter table.new search.new context.old context.new) }
+    ensures search { OnOk result (IsSearch table.new search.new) }
+    ensures context { OnOk result (IsContext table.new context.new) }
 {
     let hyps = context.hyps.as_slice().len() as u64;
     search.spend_steps(hyps.saturating_add(STEPS_A_GOAL))?;
-    let proof = proof_by_all_means(table, search, context, counted, goal)?;
+    let proof = easy_proof(table, search, context, class, goal)?;
     Ok(proof.is_some())
 }
 

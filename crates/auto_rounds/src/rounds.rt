@@ -13,7 +13,7 @@ ghost use Rattle.pcc_gate.specs.Passing.{Passes};
 ghost use Rattle.pcc_gate.specs.Answers.{IsHeld};
 
 use crate::fault::RoundFault;
-use crate::judging::{context_of, is_easy, left_of};
+use crate::judging::{Class, context_of, is_easy, left_of};
 use alpha_cfg::Cut;
 use auto_candidates::known;
 use hereditary_subst::Exhausted;
@@ -31,6 +31,17 @@ const STEPS_A_TERM: u64 = 48;
 
 /// The most conjuncts of an invariant that are asked about one by one.
 const MOST_CONJUNCTS: u32 = 4_096;
+
+/// How a round asks.
+#[derive(Clone, Copy, Debug, PartialEq, Eq)]
+pub struct Manner {
+    /// The most results that it caches.
+    pub steps: usize,
+    /// Whether it ends at the first goal that isn't easy.
+    pub first: bool,
+    /// Whether goals are easy too that `auto_proofs` proves, but not `prove`.
+    pub wider: bool,
+}
 
 /// A conjunct of an invariant that isn't easy somewhere where the invariant is reached.
 #[derive(Clone, Copy, Debug, PartialEq, Eq)]
@@ -64,8 +75,7 @@ impl Round {
 struct Asking {
     table: Table,
     search: Search,
-    // whether steps are counted
-    counted: bool,
+    class: Class,
     // whether the round ends at the first goal that isn't easy
     first: bool,
     found: Round,
@@ -86,8 +96,8 @@ impl Asking {
     {
         match known(&self.table, goal) {
             Some(goal) => {
-                let counted = self.counted;
-                is_easy(&mut self.table, &mut self.search, context, counted, goal)
+                let class = self.class;
+                is_easy(&mut self.table, &mut self.search, context, class, goal)
             }
             None => Ok(false),
         }
@@ -129,7 +139,8 @@ impl Asking {
         requires { IsSearch self.old.table self.old.search }
         ensures { OnOk result (IsSearch self.new.table self.new.search) }
     {
-        let mut context = context_of(&mut self.table, forms)?;
+        let class = self.class;
+        let mut context = context_of(&mut self.table, &mut self.search, class, forms)?;
         match why {
             Why::Reach(index) => {
                 let at = Missing { index, conjunct: 0 };
@@ -235,8 +246,7 @@ fn asked_of(
     policy: &Policy,
     bytes: &[u8],
     passed: Passed<'_>,
-    steps: usize,
-    first: bool,
+    manner: Manner,
 ) -> Result<Round, Exhausted>
     requires passes { let contents = contents_of passed.container in
         Passes policy.now bytes.now contents passed.cut.code passed.cut.marks }
@@ -251,7 +261,7 @@ fn asked_of(
     let before = table.count();
     let parts = parts_of(&mut table, policy, &cut, &invs, bound)?;
     let made = table.count().saturating_sub(before);
-    let mut search = Search::new(&table, steps);
+    let mut search = Search::new(&table, manner.steps);
     search.spend_steps(made.saturating_mul(STEPS_A_TERM))?;
     let found = Round {
         missing: Vec::new(table.allocator()),
@@ -261,18 +271,21 @@ fn asked_of(
     let mut asking = Asking {
         table,
         search,
-        counted: bound.is_some(),
-        first,
+        class: Class {
+            counted: bound.is_some(),
+            wider: manner.wider,
+        },
+        first: manner.first,
         found,
     };
     asking.ask_parts(&parts)?;
-    asking.found.left = left_of(&mut asking.search, steps);
+    asking.found.left = left_of(&mut asking.search, manner.steps);
     Ok(asking.found)
 }
 
-/// Asks about each goal of the verification condition of the container in `bytes` under `policy`:
-/// which aren't easy; if `first`, the first of them alone. Caches at most `steps` results, in which
-/// the condition's terms count and the goals that are asked about.
+/// Asks about each goal of the verification condition of the container in `bytes` under `policy`
+/// which aren't easy, as `manner` says. In the steps that it takes the condition's terms count and
+/// the goals that are asked about.
 ///
 /// Errors: `Refused` names the first check before the proof that fails; `Memory` and `Steps` say
 /// nothing about the bytes.
@@ -280,13 +293,12 @@ pub fn ask_round(
     alloc: Global,
     policy: &Policy,
     bytes: &[u8],
-    steps: usize,
-    first: bool,
+    manner: Manner,
 ) -> Result<Round, RoundFault> {
     match front(alloc, policy, bytes) {
         Err(GateFault::Refused(refusal)) => Err(RoundFault::Refused(refusal)),
         Err(GateFault::Memory) => Err(RoundFault::Memory),
         Err(GateFault::Results) => Err(RoundFault::Steps),
-        Ok(passed) => Ok(asked_of(policy, bytes, passed, steps, first)?),
+        Ok(passed) => Ok(asked_of(policy, bytes, passed, manner)?),
     }
 }

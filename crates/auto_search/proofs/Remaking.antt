@@ -5,7 +5,7 @@ use Rattle.std.specs.Global.{Global}
 use Rattle.std.proofs.Common.{option_map, Result, Ok, Err, refl, sym, ap, ◌∙◌, subst, arith}
 use Rattle.std.proofs.lemmas.List.{length-map}
 use Rattle.term_table.specs.Tree.{Tree}
-use Rattle.term_table.specs.Table.{TableView, Extends, tree_at, id_trees}
+use Rattle.term_table.specs.Table.{TableView, IsKnown, Extends, tree_at, id_trees}
 use Rattle.lf_lemmas.specs.Tables.{lemmas_in, LemmasKnown}
 use Rattle.lf_lemmas.specs.Laws.Lawful.{lemmas_stay, lemmas_known}
 use Rattle.proof_container.specs.declared.container.Container.{Container}
@@ -20,35 +20,46 @@ use Rattle.proof_container.specs.Encoding.{IsContents, AreTerms, AreRising, Enco
 use Rattle.proof_container.specs.Views.{AllTerms, AreKnown, IsWritable, contents_of, view_contents}
 use Rattle.proof_container.proofs.LemmaIds.{of_ids}
 use Rattle.auto_search.specs.Outcomes.{IsOf}
-use Rattle.auto_search.specs.Inside.Terms.{ArePlain, AreRisingIds, with_invs, IsEncoded, IsRemade, IsRemadeOf, IsKeptOf, AreSameBut, HasInvariants}
-use Rattle.auto_search.proofs.Copies.{known-plain, terms-plain, rising-ids}
+use Rattle.auto_search.specs.Inside.Terms.{IsPlain, ArePlain, AreRisingIds, with_invs, IsEncoded, IsRemade, IsRemadeOf, IsKeptOf, AreSameBut, HasInvariants}
+use Rattle.auto_search.proofs.Copies.{any_version, known-plain, terms-plain, rising-ids}
 
 -- the lemmas' terms, which stand behind the invariants' and before the proof's
-lemma_terms : (v : ℕ) (ts lemmas others : List Tree) → AreTerms v (ts ++ (lemmas ++ others))
-    → AllTerms v (lemmas ++ [])
-lemma_terms v [] [] others h = tt
-lemma_terms v [] (t ∷ lemmas) others h = (h.0, lemma_terms v [] lemmas others h.2)
-lemma_terms v (t ∷ ts) lemmas others h = lemma_terms v ts lemmas others h.2
+lemma_terms : (v : ℕ) (ts lemmas others last : List Tree) → AreTerms v (ts ++ (lemmas ++ others))
+    → AllTerms v last → AllTerms v (lemmas ++ last)
+lemma_terms v [] [] others last h k = k
+lemma_terms v [] (t ∷ lemmas) others last h k = (h.0, lemma_terms v [] lemmas others last h.2 k)
+lemma_terms v (t ∷ ts) lemmas others last h k = lemma_terms v ts lemmas others last h.2 k
+
+-- the term of a proof, if there is one
+optional-known : (u : TableView) (o : Option ℕ) → IfSome o (IsPlain u) → IfSome o (IsKnown u)
+optional-known u None h = tt
+optional-known u (Some p) h = h.0
+
+optional-terms : (v : ℕ) (u : TableView) (o : Option ℕ) → IfSome o (IsPlain u)
+    → AllTerms v (one_or_none (option_map (tree_at u) o))
+optional-terms v u None h = tt
+optional-terms v u (Some p) h = (any_version v (tree_at u p) h.1, tt)
 
 -- whole words
 abbrev IsWhole : List ℕ → Type 0
 IsWhole l = 4 * (length l / 4) ≡ length l
 
--- what a view shows with other invariants can be written
-pub can_remake : (k : Container) (u : TableView) (v : View) (invs : List (ℕ × ℕ))
+-- what a view shows with other invariants, and perhaps a proof, can be written
+pub can_remake : (k : Container) (u : TableView) (v : View) (invs : List (ℕ × ℕ)) (o : Option ℕ)
     → IsContents (contents_of k) → LemmasKnown k.table k.lemmas.items → Extends k.table u
-    → ArePlain u invs → length invs ≤ MAX_INVS → AreRisingIds 0 (length k.code.now / 4) invs
+    → ArePlain u invs → IfSome o (IsPlain u) → length invs ≤ MAX_INVS → AreRisingIds 0 (length k.code.now / 4) invs
     → v.version ≡ k.version → v.head ≡ k.head → v.bound ≡ k.bound → v.code.now ≡ k.code.now
-    → v.table.now ≡ u → v.invs.now ≡ invs → v.lemmas.now ≡ k.lemmas.items → v.proof ≡ None
+    → v.table.now ≡ u → v.invs.now ≡ invs → v.lemmas.now ≡ k.lemmas.items → v.proof ≡ o
     → length (entries (roots (view_contents v))) ≤ MAX_ENTRIES → IsWritable v
-can_remake k u v invs h lemmas x plain few rising version head bound code table invs_are lemmas_are proof entries =
+can_remake k u v invs o h lemmas x plain proved few rising version head bound code table invs_are lemmas_are proof entries =
     let here : List (ℕ × ℕ) = k.lemmas.items in
+    let last : List Tree = one_or_none (option_map (tree_at u) o) in
     let same : lemmas_in u here ≡ lemmas_in k.table here = lemmas_stay here k.table u lemmas x in
-    let terms : AllTerms k.version (map (λ p. p.1) (id_trees u invs) ++ (lemma_roots (lemmas_in u here) ++ [])) =
-    terms-plain k.version u invs (lemma_roots (lemmas_in u here) ++ []) plain
-    (subst (λ (l : List (Tree × Tree)). AllTerms k.version (lemma_roots l ++ [])) (sym same)
+    let terms : AllTerms k.version (map (λ p. p.1) (id_trees u invs) ++ (lemma_roots (lemmas_in u here) ++ last)) =
+    terms-plain k.version u invs (lemma_roots (lemmas_in u here) ++ last) plain
+    (subst (λ (l : List (Tree × Tree)). AllTerms k.version (lemma_roots l ++ last)) (sym same)
     (lemma_terms k.version (map (λ p. p.1) (contents_of k).invs) (lemma_roots (lemmas_in k.table here))
-    (one_or_none (contents_of k).proof) h.terms)) in
+    (one_or_none (contents_of k).proof) last h.terms (optional-terms k.version u o proved))) in
     record {
       version = subst IsVersion (sym version) h.version;
       head =
@@ -60,7 +71,7 @@ can_remake k u v invs h lemmas x plain few rising version head bound code table 
       known =
           subst (λ (t : TableView). AreKnown t v.invs.now v.proof) (sym table)
           (subst (λ (l : List (ℕ × ℕ)). AreKnown u l v.proof) (sym invs_are)
-          (subst (λ (o : Option ℕ). AreKnown u invs o) (sym proof) (known-plain u invs plain, tt)));
+          (subst (λ (o : Option ℕ). AreKnown u invs o) (sym proof) (known-plain u invs plain, optional-known u o proved)));
       known_lemmas =
           subst (λ (t : TableView). LemmasKnown t v.lemmas.now) (sym table)
           (subst (λ (l : List (ℕ × ℕ)). LemmasKnown u l) (sym lemmas_are)
@@ -87,7 +98,7 @@ can_remake k u v invs h lemmas x plain few rising version head bound code table 
   where
     -- what the view shows
     shown : roots (view_contents v)
-        ≡ map (λ p. p.1) (id_trees u invs) ++ (lemma_roots (lemmas_in u k.lemmas.items) ++ [])
+        ≡ map (λ p. p.1) (id_trees u invs) ++ (lemma_roots (lemmas_in u k.lemmas.items) ++ one_or_none (option_map (tree_at u) o))
     shown =
         (λ i. map (λ p. p.1) (id_trees (table i) (invs_are i))
         ++ (lemma_roots (lemmas_in (table i) (lemmas_are i)) ++ one_or_none (option_map (tree_at (table i)) (proof i))))

@@ -15,7 +15,9 @@ ghost use Rattle.auto_search.specs.Inside.Terms.{AreSameBut, IsContainer, IsKept
 ghost use Rattle.auto_search.specs.Outcomes.{IsOf};
 
 use auto_candidates::known;
+use auto_rounds::Found;
 use lf_signature::LONGEST;
+use pcc_gate::MAX_WEIGHT;
 use proof_container::{
     Container, MAX_BYTES, MAX_ENTRIES, MAX_INVS, Malformed, View, extent, laws, read, write,
 };
@@ -109,17 +111,26 @@ fn copied(from: &Table, to: &mut Table, id: Id, left: &mut u32) -> Result<Option
     }
 }
 
-/// Copies a term into the other table, with at most `MOST_NODES` parts. None if it isn't one of the
+/// Copies a term into the other table, with at most `most` parts. None if it isn't one of the
 /// table's, or not one that a container of any version may have, or has more.
-pub(crate) fn copy_of(from: &Table, to: &mut Table, id: Id) -> Result<Option<Id>, AllocError>
+fn copy_within(from: &Table, to: &mut Table, id: Id, most: u32) -> Result<Option<Id>, AllocError>
     ensures plain { IfOk result (λ o. IfSome o (IsPlain to.new)) }
     ensures extends { Extends to.old to.new }
 {
     let Some(id) = known(from, id) else {
         return Ok(None);
     };
-    let mut left = MOST_NODES;
+    let mut left = most;
     copied(from, to, id, &mut left)
+}
+
+/// Copies a term into the other table, with at most `MOST_NODES` parts. None if it isn't one of the
+/// table's, or not one that a container of any version may have, or has more.
+pub(crate) fn copy_of(from: &Table, to: &mut Table, id: Id) -> Result<Option<Id>, AllocError>
+    ensures plain { IfOk result (λ o. IfSome o (IsPlain to.new)) }
+    ensures extends { Extends to.old to.new }
+{
+    copy_within(from, to, id, MOST_NODES)
 }
 
 /// Copies the terms of invariants into the other table.
@@ -240,6 +251,64 @@ pub(crate) fn with_invariants(
 {
     match read(alloc, input) {
         Ok(container) => remade(alloc, container, table, invs),
+        Err(Malformed::At(_, _)) => Ok(None),
+        Err(Malformed::Memory) => Err(AllocError),
+    }
+}
+
+/// The bytes of the container with these invariants and this proof, which are terms of another
+/// table. None if it would be past a limit.
+fn with_both(
+    alloc: Global,
+    container: Container<'_>,
+    found: &Found,
+) -> Result<Option<Vec<u8>>, AllocError>
+    requires contents { IsContents (contents_of container) }
+    requires canonical { IsCanonical container }
+{
+    let version = container.version;
+    let head = container.head;
+    let bound = container.bound;
+    let words = container.code;
+    let mut table = container.table;
+    let lemmas = container.lemmas;
+    let Some(proof) = copy_within(&found.table, &mut table, found.proof, MAX_WEIGHT)? else {
+        return Ok(None);
+    };
+    let Some(copies) = copies_of(alloc, &found.table, &mut table, &found.invs)? else {
+        return Ok(None);
+    };
+    if copies.len() > MAX_INVS as usize {
+        return Ok(None);
+    }
+    let rising = are_rising(&copies, 0, words.len() / 4);
+    if !rising {
+        return Ok(None);
+    }
+    let view = View {
+        version,
+        head,
+        bound,
+        code: words,
+        table: &table,
+        invs: &copies,
+        lemmas: &lemmas,
+        proof: Some(proof),
+    };
+    written(alloc, &view)
+}
+
+/// Returns the bytes of the container in `input` with the invariants and the proof that were found
+/// for it. None if there is no container in `input`, or if it would be past a limit.
+///
+/// Errors: out of memory.
+pub(crate) fn with_proof(
+    alloc: Global,
+    input: &[u8],
+    found: &Found,
+) -> Result<Option<Vec<u8>>, AllocError> {
+    match read(alloc, input) {
+        Ok(container) => with_both(alloc, container, found),
         Err(Malformed::At(_, _)) => Ok(None),
         Err(Malformed::Memory) => Err(AllocError),
     }

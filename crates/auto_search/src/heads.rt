@@ -114,6 +114,11 @@ fn forms_copied(alloc: Global, forms: &[Id]) -> Result<Vec<Id>, AllocError> {
     Ok(copies)
 }
 
+/// Copies heads.
+pub(crate) fn copied_heads(alloc: Global, heads: &[Head]) -> Result<Vec<Head>, AllocError> {
+    with_groups(alloc, heads, &[], 0)
+}
+
 /// Copies heads, and adds to each the formulas of its group with this number.
 pub(crate) fn with_groups(
     alloc: Global,

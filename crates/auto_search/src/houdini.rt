@@ -4,7 +4,7 @@ use crate::containers::with_invariants;
 use crate::heads::{Head, invariants, with_groups};
 use crate::outcome::Stop;
 use auto_candidates::{Facts, candidates_at, policy_parts};
-use auto_rounds::{Missing, Round, ask_round};
+use auto_rounds::{Manner, Missing, Round, ask_round};
 use policy_set::Policy;
 use std::alloc::{AllocError, Global};
 use term_table::{Id, Table};
@@ -31,6 +31,8 @@ pub(crate) struct Drafting {
     pub(crate) facts: Facts,
     /// Whether its steps are bounded.
     pub(crate) counted: bool,
+    /// Whether goals are easy too that `auto_proofs` proves, but not `prove`.
+    pub(crate) wider: bool,
     /// The terms of candidates.
     pub(crate) table: Table,
     /// The results that may still be cached.
@@ -104,7 +106,12 @@ impl Drafting {
         first: bool,
     ) -> Result<Round, Stop> {
         let bytes = self.bytes_with(alloc, heads)?;
-        let found = ask_round(alloc, policy, &bytes, self.left, first)?;
+        let manner = Manner {
+            steps: self.left,
+            first,
+            wider: self.wider,
+        };
+        let found = ask_round(alloc, policy, &bytes, manner)?;
         self.left = found.left.min(self.left);
         Ok(found)
     }

@@ -9,20 +9,21 @@ ghost use Rattle.auto_search.specs.Outcomes.{outcome_view, IsOutcome, HasNoProof
 ghost use Rattle.auto_search.specs.Inside.Terms.{IsKeptOf, IsKeptIfAny};
 
 use crate::containers::{
-    bare_of, copy_of, count_if_same, if_container, invariants_in, with_invariants,
+    bare_of, copy_of, count_if_same, if_container, invariants_in, with_invariants, with_proof,
 };
-use crate::heads::{Head, add_head, invariants};
+use crate::heads::{Head, add_head, copied_heads, invariants};
 use crate::houdini::Drafting;
 use crate::outcome::{Outcome, SearchFault, Stop};
 use alpha_cfg::{Code, CodeFault};
 use auto_candidates::{Facts, facts_of, known, split};
+use auto_rounds::{RoundFault, find_proof};
 use bounds_prover::{ProveFault, prove};
 use lf_signature::LONGEST;
 use pcc_gate::{GateFault, Refusal, front, gate};
 use policy_set::Policy;
 use proof_container::{Container, MAX_INVS, Malformed, profile_of, read};
 use std::alloc::{AllocError, Global};
-use term_table::Table;
+use term_table::{Id, Table};
 
 /// The most results that a search caches in all its rounds, in which goals and rounds count too.
 pub const MOST_STEPS: usize = 3_000_000;
@@ -75,8 +76,47 @@ fn add_heads(
     Err(Stop::GivesUp)
 }
 
-/// Searches for formulas of the heads, and leaves in them what it found.
+/// Searches for formulas of the heads, and leaves in them what it found. Returns how many goals
+/// that aren't invariants aren't easy.
 fn fill(
+    alloc: Global,
+    policy: &Policy,
+    drafting: &mut Drafting,
+    heads: &mut Vec<Head>,
+    groups: &[Vec<Vec<Id>>],
+) -> Result<u32, Stop> {
+    drafting.settle(alloc, policy, heads)?;
+    drafting.grow(alloc, policy, heads, groups)?;
+    let mut found = drafting.ask(alloc, policy, heads, false)?;
+    if found.hard > 0 {
+        drafting.grow(alloc, policy, heads, groups)?;
+        found = drafting.ask(alloc, policy, heads, false)?;
+    }
+    Ok(found.hard)
+}
+
+/// Searches for formulas of the heads in the wider class, among more candidates, and leaves in them
+/// what it found, if each goal is easy with that.
+fn fill_wider(
+    alloc: Global,
+    policy: &Policy,
+    drafting: &mut Drafting,
+    heads: &mut Vec<Head>,
+) -> Result<(), Stop> {
+    drafting.wider = true;
+    drafting.facts.widen();
+    let groups = drafting.groups(alloc, policy, heads)?;
+    let hard = fill(alloc, policy, drafting, heads, &groups)?;
+    if hard > 0 {
+        return Err(Stop::GivesUp);
+    }
+    drafting.shrink(alloc, policy, heads, 0)
+}
+
+/// Searches for formulas of the heads that the code needs, first in the class of `prove`, and then,
+/// if goals aren't easy, in the wider one. Leaves in `heads` what it found in the second if each
+/// goal is easy with that, else what it found in the first.
+fn fill_all(
     alloc: Global,
     policy: &Policy,
     drafting: &mut Drafting,
@@ -84,14 +124,18 @@ fn fill(
 ) -> Result<(), Stop> {
     add_heads(alloc, policy, drafting, heads)?;
     let groups = drafting.groups(alloc, policy, heads)?;
-    drafting.settle(alloc, policy, heads)?;
-    drafting.grow(alloc, policy, heads, &groups)?;
-    let mut found = drafting.ask(alloc, policy, heads, false)?;
-    if found.hard > 0 {
-        drafting.grow(alloc, policy, heads, &groups)?;
-        found = drafting.ask(alloc, policy, heads, false)?;
+    let mut others = copied_heads(alloc, heads)?;
+    let hard = fill(alloc, policy, drafting, heads, &groups)?;
+    drafting.shrink(alloc, policy, heads, hard)?;
+    if hard == 0 {
+        return Ok(());
     }
-    drafting.shrink(alloc, policy, heads, found.hard)
+    match fill_wider(alloc, policy, drafting, &mut others) {
+        Ok(()) => *heads = others,
+        Err(Stop::Memory) => return Err(Stop::Memory),
+        Err(Stop::GivesUp | Stop::Refused) => drafting.wider = false,
+    }
+    Ok(())
 }
 
 /// What the container's code shows of itself.
@@ -126,6 +170,7 @@ fn drafting_of(
         words: container.code.len() / 4,
         facts,
         counted: container.bound.is_some(),
+        wider: false,
         table,
         left: MOST_STEPS,
     })
@@ -148,12 +193,14 @@ fn container_with(
 }
 
 /// The container in the bytes with the invariants that the search finds, without proof; None if the
-/// search ends before it has any.
+/// search ends before it has any. `steps` becomes what the search has left for a proof in the wider
+/// class, if there is one with these invariants, else 0.
 fn kept_by_search(
     alloc: Global,
     policy: &Policy,
     bytes: &[u8],
     bare: Vec<u8>,
+    steps: &mut usize,
 ) -> Result<Option<Vec<u8>>, AllocError>
     ensures { IfOk result (λ o. IfSome o (λ out. IsKeptOf bytes.now out.items)) }
 {
@@ -163,16 +210,22 @@ fn kept_by_search(
         Err(Stop::GivesUp | Stop::Refused) => return Ok(None),
         Err(Stop::Memory) => return Err(AllocError),
     };
-    match fill(alloc, policy, &mut drafting, &mut heads) {
+    match fill_all(alloc, policy, &mut drafting, &mut heads) {
         Ok(()) | Err(Stop::GivesUp | Stop::Refused) => {}
         Err(Stop::Memory) => return Err(AllocError),
     }
+    *steps = if drafting.wider { drafting.left } else { 0 };
     container_with(alloc, bytes, drafting, &heads)
 }
 
 /// The container in the bytes with the invariants that the search keeps, without proof; None if
-/// there is no container.
-fn kept_of(alloc: Global, policy: &Policy, bytes: &[u8]) -> Result<Option<Vec<u8>>, AllocError>
+/// there is no container. `steps` becomes what `kept_by_search` says.
+fn kept_of(
+    alloc: Global,
+    policy: &Policy,
+    bytes: &[u8],
+    steps: &mut usize,
+) -> Result<Option<Vec<u8>>, AllocError>
     ensures { IfOk result (λ o. IsKeptIfAny bytes.now o) }
 {
     let Some(bare) = bare_of(alloc, bytes)? else {
@@ -182,9 +235,42 @@ fn kept_of(alloc: Global, policy: &Policy, bytes: &[u8]) -> Result<Option<Vec<u8
     };
     let mut copy = Vec::new(alloc);
     copy.extend_from_slice(&bare)?;
-    match kept_by_search(alloc, policy, bytes, copy)? {
+    match kept_by_search(alloc, policy, bytes, copy, steps)? {
         Some(kept) => Ok(Some(kept)),
         None => Ok(Some(bare)),
+    }
+}
+
+/// The bytes with a proof in the wider class, if there is one that takes at most `steps` results.
+fn proved_wider(
+    alloc: Global,
+    policy: &Policy,
+    bytes: &[u8],
+    steps: usize,
+) -> Result<Option<Vec<u8>>, AllocError> {
+    match find_proof(alloc, policy, bytes, steps) {
+        Ok(Some(found)) => with_proof(alloc, bytes, &found),
+        Ok(None) | Err(RoundFault::Refused(_) | RoundFault::Steps) => Ok(None),
+        Err(RoundFault::Memory) => Err(AllocError),
+    }
+}
+
+/// The bytes with the proof of the prover, or else with one in the wider class if `steps` isn't 0.
+fn proved_somehow(
+    alloc: Global,
+    policy: &Policy,
+    bytes: &[u8],
+    steps: usize,
+) -> Result<Option<Vec<u8>>, AllocError> {
+    match prove(alloc, policy, bytes) {
+        Ok(proved) => Ok(Some(proved)),
+        Err(ProveFault::At(_) | ProveFault::Results) => {
+            if steps == 0 {
+                return Ok(None);
+            }
+            proved_wider(alloc, policy, bytes, steps)
+        }
+        Err(ProveFault::Memory) => Err(AllocError),
     }
 }
 
@@ -194,16 +280,15 @@ fn judged(
     policy: &Policy,
     bytes: &[u8],
     kept: Vec<u8>,
+    steps: usize,
 ) -> Result<Outcome, SearchFault>
     requires kept { IsKeptOf bytes.now kept.items }
     requires unproved { HasNoProof policy.now bytes.now }
     ensures outcome { IfOk result (λ o. IsOutcome policy.now bytes.now (outcome_view o)) }
     ensures fault { IfErr result (IsSearchFault bytes.now) }
 {
-    let proved = match prove(alloc, policy, &kept) {
-        Ok(proved) => proved,
-        Err(ProveFault::At(_) | ProveFault::Results) => return Ok(Outcome::Unfound(kept)),
-        Err(ProveFault::Memory) => return Err(SearchFault::Memory),
+    let Some(proved) = proved_somehow(alloc, policy, &kept, steps)? else {
+        return Ok(Outcome::Unfound(kept));
     };
     match gate(alloc, policy, &proved) {
         Ok(_) => {}
@@ -222,8 +307,9 @@ fn searched(alloc: Global, policy: &Policy, bytes: &[u8]) -> Result<Outcome, Sea
     ensures outcome { IfOk result (λ o. IsOutcome policy.now bytes.now (outcome_view o)) }
     ensures fault { IfErr result (IsSearchFault bytes.now) }
 {
-    match kept_of(alloc, policy, bytes)? {
-        Some(kept) => judged(alloc, policy, bytes, kept),
+    let mut steps = 0;
+    match kept_of(alloc, policy, bytes, &mut steps)? {
+        Some(kept) => judged(alloc, policy, bytes, kept, steps),
         None => Err(SearchFault::NoContainer),
     }
 }

@@ -1,4 +1,4 @@
-use Rattle.std.proofs.Common.{◌≡◌, ℕ, ◌/◌, ◌≤◌, List, length, Option, Vec, IfSome, refl, sym, subst, arith}
+use Rattle.std.proofs.Common.{◌≡◌, ℕ, ◌/◌, ◌≤◌, List, length, Option, None, Vec, IfSome, refl, sym, subst, arith}
 use Rattle.std.specs.Global.{Global}
 use Rattle.lf_lemmas.specs.Tables.{LemmasKnown}
 use Rattle.lf_lemmas.specs.Laws.Lawful.{lemmas_known}
@@ -38,7 +38,7 @@ written-requires-clause-writable c =
     let rising : AreRisingIds 0 (length k.code.now / 4) invs =
     subst (λ (l : List (ℕ × ℕ)). AreRisingIds 0 (length k.code.now / 4) l) c.deref.ensures.value
     (c.are_rising-rising.ensures c.if-not-rising.false) in
-    can_remake k t _ invs c.requires.contents c.requires.canonical.known_lemmas c.copies_of.ensures.extends plain few
+    can_remake k t _ invs None c.requires.contents c.requires.canonical.known_lemmas c.copies_of.ensures.extends plain tt few
     rising refl refl refl refl refl c.deref-2.ensures.value c.deref-3.ensures.value refl
 
 pub returns : goal.returns

@@ -1,0 +1,11 @@
+use Rattle.term_table.specs.Table.{IsKnown, Extends}
+use Rattle.prover_goals.specs.Search.{IsSearch, IsContext}
+use Rattle.auto_proofs.proofs.leaves.proof_by_premises.Given as goal
+
+abbrev pub invariant-loop-i : goal.invariant-loop-i
+invariant-loop-i l = record {
+  wanted : IsKnown l.table l.wanted.address;
+  extends : Extends l.fn.table l.table;
+  search : IsSearch l.table l.search;
+  context : IsContext l.table l.context;
+}
